@@ -6,14 +6,14 @@ use Rattle.std.proofs.lemmas.Option.{same_Some}
 use Rattle.r4_base.specs.Node.{items_of}
 use Rattle.r4_base.specs.Tree.{Name, Node, Root, Store}
 use Rattle.r4_base.specs.Value.{Value}
-use Rattle.r4_measure.specs.Budget.{Bears, Budget}
-use Rattle.r4_measure.specs.r4_cell.Seen.{CellSeen, node_of}
-use Rattle.r4_measure.specs.r4_cell.declared.change.Fresh.{Fresh}
-use Rattle.r4_measure.proofs.Grafted.{none_below}
-use Rattle.r4_measure.proofs.Kept.{block_is}
-use Rattle.r4_measure.proofs.r4_patch.Members.{cases, here, later, none}
-use Rattle.r4_measure.proofs.r4_patch.PartCells.{named_once, root_unnamed}
-use Rattle.r4_measure.proofs.r4_path.Rising.{level_is}
+use Rattle.r4_extent_put.specs.r4_extent_change.r4_measure.Budget.{Bears, Budget}
+use Rattle.r4_extent_put.specs.r4_extent_change.r4_measure.r4_cell.Seen.{CellSeen, node_of}
+use Rattle.r4_extent_put.specs.r4_extent_change.r4_measure.r4_cell.declared.change.Fresh.{Fresh}
+use Rattle.r4_extent_put.proofs.r4_extent_change.r4_measure.Grafted.{none_below}
+use Rattle.r4_extent_put.proofs.r4_extent_change.r4_measure.Kept.{block_is}
+use Rattle.r4_extent_put.proofs.r4_extent_change.r4_measure.r4_patch.Members.{cases, here, later, none}
+use Rattle.r4_extent_put.proofs.r4_extent_change.r4_measure.r4_patch.PartCells.{named_once, root_unnamed}
+use Rattle.r4_extent_put.proofs.r4_extent_change.r4_measure.r4_path.Rising.{level_is}
 use Rattle.r4_allowed.specs.Allowing.{AreTaskCells, IsAllowed, IsMeasure, LetsCome}
 use Rattle.r4_allowed.specs.Table.{budget_of}
 use Rattle.r4_allowed.specs.declared.table.Allowance.{Allowance}

@@ -3,8 +3,8 @@ use Rattle.std.proofs.Common.{◌≡◌, ℕ, ◌+◌, [], ◌∷◌, List, take
 use Rattle.std.specs.Prelude.{Some, slice_get}
 use Rattle.std.proofs.lemmas.List.Sums.{sum_by-append, sum_by-cons}
 use Rattle.r4_base.specs.Node.{Item}
-use Rattle.r4_measure.specs.Budget.{below, of_item}
-use Rattle.r4_measure.proofs.r4_path.Filling.{take_more}
+use Rattle.r4_extent_put.specs.r4_extent_change.r4_measure.Budget.{below, of_item}
+use Rattle.r4_extent_put.proofs.r4_extent_change.r4_measure.r4_path.Filling.{take_more}
 
 pub below_next : (u : ℕ → ℕ) (items : List Item) (i : ℕ) (it : Item) → slice_get items i ≡ Some it
     → below u (take (i + 1) items) ≡ below u (take i items) + of_item u it

@@ -2,7 +2,7 @@
 use Rattle.std.proofs.Common.{◌≡◌, ℕ, ◌≤◌, Bool, true, false, List, [], ◌∷◌, refl, arith}
 use Rattle.std.specs.Prelude.{Contains, ◌==◌, ◌&&◌, if◌then◌else◌}
 use Rattle.std.proofs.lemmas.Bool.{and_parts, eqb-true}
-use Rattle.r4_measure.proofs.r4_patch.Members.{here, later}
+use Rattle.r4_extent_put.proofs.r4_extent_change.r4_measure.r4_patch.Members.{here, later}
 use Rattle.r4_allowed.specs.Table.{budget_of}
 use Rattle.r4_allowed.specs.declared.table.Allowance.{Allowance}
 

@@ -9,10 +9,10 @@ use Rattle.r4_base.specs.Extents.{pointer_of, units_of}
 use Rattle.r4_base.specs.Key.{rank}
 use Rattle.r4_base.specs.Node.{Item, items_of}
 use Rattle.r4_base.specs.Tree.{Name}
-use Rattle.r4_measure.specs.Budget.{below, of_item, of_target}
-use Rattle.r4_measure.specs.r4_cell.Seen.{CellSeen, node_of}
-use Rattle.r4_measure.proofs.r4_patch.Members.{cases, here, later, none}
-use Rattle.r4_measure.proofs.r4_path.CellNodes.{names_are}
+use Rattle.r4_extent_put.specs.r4_extent_change.r4_measure.Budget.{below, of_item, of_target}
+use Rattle.r4_extent_put.specs.r4_extent_change.r4_measure.r4_cell.Seen.{CellSeen, node_of}
+use Rattle.r4_extent_put.proofs.r4_extent_change.r4_measure.r4_patch.Members.{cases, here, later, none}
+use Rattle.r4_extent_put.proofs.r4_extent_change.r4_measure.r4_path.CellNodes.{names_are}
 use Rattle.r4_allowed.specs.Allowing.{IsPointerTo, PointsTo}
 
 -- a name of this number

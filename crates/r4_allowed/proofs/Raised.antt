@@ -4,8 +4,8 @@ use Rattle.std.specs.Prelude.{All, Contains, ◌==◌, ◌&&◌, if◌then◌els
 use Rattle.std.proofs.lemmas.Bool.{cases_eq, eq-eqb, ne_eqb}
 use Rattle.std.proofs.lemmas.List.Elements.{All-append, All-cons, All-head, All-nil, All-tail, All-weaker}
 use Rattle.r4_base.specs.declared.things.NodeId.{NodeId}
-use Rattle.r4_measure.specs.r4_cell.Seen.{CellSeen}
-use Rattle.r4_measure.proofs.r4_patch.Members.{cases, here, later, none}
+use Rattle.r4_extent_put.specs.r4_extent_change.r4_measure.r4_cell.Seen.{CellSeen}
+use Rattle.r4_extent_put.proofs.r4_extent_change.r4_measure.r4_patch.Members.{cases, here, later, none}
 use Rattle.r4_allowed.specs.Making.{IsOfTwig, IsRaised, IsUpTo, cell_entry, entries_at, entry_at, needed_at, needed_by, told_of, twig_entry}
 use Rattle.r4_allowed.specs.Table.{budget_of}
 use Rattle.r4_allowed.specs.declared.table.Allowance.{Allowance}

@@ -5,8 +5,8 @@ use Rattle.std.proofs.lemmas.Bool.{both_ways}
 use Rattle.std.proofs.lemmas.List.{take_all}
 use Rattle.std.proofs.lemmas.List.Elements.{All-cons, All-contains, All-head, All-tail, Contains-get_or}
 use Rattle.r4_base.specs.Tree.{Root}
-use Rattle.r4_measure.specs.r4_cell.Seen.{CellSeen}
-use Rattle.r4_measure.proofs.r4_patch.Members.{cases, later}
+use Rattle.r4_extent_put.specs.r4_extent_change.r4_measure.r4_cell.Seen.{CellSeen}
+use Rattle.r4_extent_put.proofs.r4_extent_change.r4_measure.r4_patch.Members.{cases, later}
 use Rattle.r4_allowed.specs.Allowing.{BearsBy, IsAllowed, IsEntry}
 use Rattle.r4_allowed.specs.declared.table.Allowance.{Allowance}
 

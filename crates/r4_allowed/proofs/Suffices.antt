@@ -3,11 +3,11 @@ use Rattle.std.proofs.Common.{◌≡◌, ◌≢◌, inl, inr, ℕ, suc, ◌+◌,
 use Rattle.std.specs.Prelude.{Contains, ◌==◌, ◌&&◌, if◌then◌else◌}
 use Rattle.std.proofs.lemmas.Bool.{eq-eqb, ne_eqb}
 use Rattle.r4_base.specs.Node.{items_of}
-use Rattle.r4_measure.specs.Budget.{below}
-use Rattle.r4_measure.specs.r4_cell.Patch.{HaveNames}
-use Rattle.r4_measure.specs.r4_cell.Seen.{CellSeen}
-use Rattle.r4_measure.specs.r4_path.Nodes.{weight}
-use Rattle.r4_measure.proofs.r4_patch.Members.{Distinct, cases, distinct, none}
+use Rattle.r4_extent_put.specs.r4_extent_change.r4_measure.Budget.{below}
+use Rattle.r4_extent_put.specs.r4_extent_change.r4_measure.r4_cell.Patch.{HaveNames}
+use Rattle.r4_extent_put.specs.r4_extent_change.r4_measure.r4_cell.Seen.{CellSeen}
+use Rattle.r4_extent_put.specs.r4_extent_change.r4_measure.r4_path.Nodes.{weight}
+use Rattle.r4_extent_put.proofs.r4_extent_change.r4_measure.r4_patch.Members.{Distinct, cases, distinct, none}
 use Rattle.r4_allowed.specs.Allowing.{BearsBy}
 use Rattle.r4_allowed.specs.Making.{IsRaised, needed_at, needed_by, partings}
 use Rattle.r4_allowed.specs.Table.{budget_of}

@@ -5,12 +5,12 @@ use Rattle.r4_base.specs.Extents.{pointer_of}
 use Rattle.r4_base.specs.Node.{Item, items_of}
 use Rattle.r4_base.specs.Tree.{Root, Store}
 use Rattle.r4_base.specs.Value.{Value}
-use Rattle.r4_extent_change.specs.Changing.{AreMeasured}
-use Rattle.r4_measure.specs.Budget.{AreSeen, Bears}
-use Rattle.r4_measure.specs.Grafting.{IsQuietBelow}
-use Rattle.r4_measure.specs.r4_cell.Seen.{CellSeen}
-use Rattle.r4_measure.specs.r4_cell.declared.change.Fresh.{Fresh}
-use Rattle.r4_measure.specs.r4_work.Working.{AreCellsIn}
+use Rattle.r4_extent_put.specs.r4_extent_change.Changing.{AreMeasured}
+use Rattle.r4_extent_put.specs.r4_extent_change.r4_measure.Budget.{AreSeen, Bears}
+use Rattle.r4_extent_put.specs.r4_extent_change.r4_measure.Grafting.{IsQuietBelow}
+use Rattle.r4_extent_put.specs.r4_extent_change.r4_measure.r4_cell.Seen.{CellSeen}
+use Rattle.r4_extent_put.specs.r4_extent_change.r4_measure.r4_cell.declared.change.Fresh.{Fresh}
+use Rattle.r4_extent_put.specs.r4_extent_change.r4_measure.r4_work.Working.{AreCellsIn}
 use Rattle.r4_allowed.specs.Table.{budget_of}
 use Rattle.r4_allowed.specs.declared.table.Allowance.{Allowance}
 

@@ -3,9 +3,9 @@ use Rattle.std.specs.Prelude.{◌≡◌, ◌⊎◌, ℕ, suc, ◌+◌, ◌-◌, 
 use Rattle.std.specs.Prelude.{if◌then◌else◌, Contains, List, [], ◌∷◌, ◌++◌}
 use Rattle.r4_base.specs.Node.{items_of}
 use Rattle.r4_base.specs.declared.things.NodeId.{NodeId}
-use Rattle.r4_measure.specs.Budget.{Budget, below}
-use Rattle.r4_measure.specs.r4_cell.Seen.{CellSeen}
-use Rattle.r4_measure.specs.r4_path.Nodes.{weight}
+use Rattle.r4_extent_put.specs.r4_extent_change.r4_measure.Budget.{Budget, below}
+use Rattle.r4_extent_put.specs.r4_extent_change.r4_measure.r4_cell.Seen.{CellSeen}
+use Rattle.r4_extent_put.specs.r4_extent_change.r4_measure.r4_path.Nodes.{weight}
 use Rattle.r4_allowed.specs.declared.table.Allowance.{Allowance}
 
 -- what is told first of a number, else nothing

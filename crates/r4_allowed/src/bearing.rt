@@ -3,18 +3,15 @@
 
 ghost use Rattle.std.specs.Prelude.{◌≡◌, ◌+◌, ◌-◌, ◌*◌, ◌^◌, ◌<◌, ◌≤◌};
 ghost use Rattle.r4_base.specs.Node.{items_of};
-ghost use Rattle.r4_measure.specs.Budget.{below, of_item};
-ghost use Rattle.r4_measure.specs.r4_path.Nodes.{weight};
-ghost use Rattle.r4_node40.specs.View.{item_shown};
+ghost use Rattle.r4_extent_put.specs.r4_extent_change.r4_measure.Budget.{below, of_item};
+ghost use Rattle.r4_extent_put.specs.r4_extent_change.r4_measure.r4_path.Nodes.{weight};
+ghost use Rattle.r4_extent_put.specs.r4_extent_change.r4_node40.View.{item_shown};
 ghost use Rattle.r4_allowed.specs.Making.{partings};
 ghost use Rattle.r4_allowed.specs.Table.{budget_of};
 
 use crate::table::{Allowance, most_of};
 use r4_base::{BlockNo, NODE_ROOM, NodeId, POINTER};
-use r4_cell::pointer;
-use r4_extent_demands::{POINTER_ROOM, node_bytes};
-use r4_measure::Cell;
-use r4_node40::ItemView;
+use r4_extent_put::{Cell, ItemView, POINTER_ROOM, node_bytes, pointer};
 
 /// A node that is parted has room for so many bytes more, or for more of them.
 pub(crate) const NODE_SHARE: u128 = 1024;

@@ -5,9 +5,9 @@ ghost use Rattle.std.specs.Prelude.{◌≡◌, ◌↔◌, ◌≤◌, suc, true, 
 ghost use Rattle.std.specs.Arc.{arc_value};
 ghost use Rattle.r4_base.specs.Tree.{Store};
 ghost use Rattle.r4_base.specs.Value.{Value};
-ghost use Rattle.r4_measure.specs.r4_cell.Patch.{root_of_pair};
-ghost use Rattle.r4_measure.specs.r4_cell.declared.change.Fresh.{Fresh};
-ghost use Rattle.r4_node40.specs.View.{item_shown};
+ghost use Rattle.r4_extent_put.specs.r4_extent_change.r4_measure.r4_cell.Patch.{root_of_pair};
+ghost use Rattle.r4_extent_put.specs.r4_extent_change.r4_measure.r4_cell.declared.change.Fresh.{Fresh};
+ghost use Rattle.r4_extent_put.specs.r4_extent_change.r4_node40.View.{item_shown};
 ghost use Rattle.r4_allowed.specs.Allowing.{AreTaskCells, BearsBy, Hangs, IsAllowed, IsAmong};
 ghost use Rattle.r4_allowed.specs.Allowing.{IsEntry};
 ghost use Rattle.r4_allowed.specs.Allowing.{IsLowRoot, IsMeasure, IsPointedTo, IsPointerTo};
@@ -16,9 +16,7 @@ ghost use Rattle.r4_allowed.specs.Allowing.{LetsCome, PointsTo};
 use crate::bearing::{NODE_SHARE, below, bytes_with};
 use crate::table::{Allowance, most_of};
 use r4_base::{BlockNo, NODE_ROOM, NodeId, POINTER, TWIG};
-use r4_cell::{Root, pointer};
-use r4_measure::Cell;
-use r4_node40::ItemView;
+use r4_extent_put::{Cell, ItemView, Root, pointer};
 use std::sync::Arc;
 
 /// No more cells than so many come in the place of one.

@@ -2,13 +2,12 @@
 
 ghost use Rattle.std.specs.Prelude.{◌≡◌, ◌+◌, ◌^◌, ◌≤◌, map, MatchOption};
 ghost use Rattle.std.specs.Arc.{arc_value};
-ghost use Rattle.r4_measure.specs.Budget.{cells_from, most_from};
-ghost use Rattle.r4_measure.specs.r4_cell.Patch.{root_of_pair};
+ghost use Rattle.r4_extent_put.specs.r4_extent_change.r4_measure.Budget.{cells_from, most_from};
+ghost use Rattle.r4_extent_put.specs.r4_extent_change.r4_measure.r4_cell.Patch.{root_of_pair};
 ghost use Rattle.r4_allowed.specs.Table.{budget_of};
 
 use crate::table::{Allowance, most_of};
-use r4_cell::Root;
-use r4_measure::Cell;
+use r4_extent_put::{Cell, Root};
 use std::sync::Arc;
 
 /// How many cells there may be in the end by a table: these, what may come in the place of each,

@@ -4,9 +4,9 @@ ghost use Rattle.std.specs.Prelude.{ℕ, ◌+◌, ◌*◌, ◌≤◌, Contains, 
 ghost use Rattle.r4_base.specs.Tree.{Root as TreeRoot, Store};
 ghost use Rattle.r4_base.specs.Value.{Value};
 ghost use Rattle.r4_base.specs.declared.things.NodeId.{NodeId};
-ghost use Rattle.r4_measure.specs.r4_cell.Patch.{HaveNames};
-ghost use Rattle.r4_measure.specs.r4_cell.Seen.{CellSeen};
-ghost use Rattle.r4_measure.specs.r4_cell.declared.change.Fresh.{Fresh};
+ghost use Rattle.r4_extent_put.specs.r4_extent_change.r4_measure.r4_cell.Patch.{HaveNames};
+ghost use Rattle.r4_extent_put.specs.r4_extent_change.r4_measure.r4_cell.Seen.{CellSeen};
+ghost use Rattle.r4_extent_put.specs.r4_extent_change.r4_measure.r4_cell.declared.change.Fresh.{Fresh};
 ghost use Rattle.r4_allowed.specs.Allowing.{AreTaskCells, BearsBy, IsAllowed, IsMeasure};
 ghost use Rattle.r4_allowed.specs.Making.{AreTold, IsRaised, partings, told_of};
 ghost use Rattle.r4_allowed.specs.Table.{budget_of};

@@ -15,4 +15,10 @@ pub use laws::{
     allowed_tables_are_budgets, made_tables_suffice, partings_are_least, told_twigs_may_grow,
 };
 pub use making::allowances;
+pub use r4_extent_put::{
+    BodyChange, Cell, SizedBody, Turning, TwigPart, TwigPiece, body_changed, change_of_growing,
+    change_of_losing, change_of_putting, change_of_turning, changes_pieces, leaves_put, may_grow,
+    may_lose, may_put, may_turn, pieces_of_cell, turning_among, twig_turning, twigs_coming,
+    twigs_losing, twigs_putting, unit_end,
+};
 pub use table::Allowance;

@@ -10,8 +10,7 @@ ghost use Rattle.r4_allowed.specs.Table.{budget_of};
 use crate::bearing::{below, bytes_with, partings};
 use crate::table::Allowance;
 use r4_base::{Memory, NodeId, TWIG};
-use r4_cell::Root;
-use r4_measure::Cell;
+use r4_extent_put::{Cell, Root};
 use std::alloc::{AllocError, Global};
 use std::sync::Arc;
 

@@ -74,20 +74,20 @@ module _ (c : Command) (s : Pairs) (n : Content) (saw : IsSeen greatest_size c s
   reads_alike k = ap (λ (rs : Intervals). is_in rs k) (asked_alike c s n saw)
 
   -- of a body that is changed the stat data were seen
-  stat_read : (k : ℕ) → is_in (changed (edits_on c s)) k ≡ true → is_body k ≡ true
+  pub stat_read : (k : ℕ) → is_in (changed (edits_on c s)) k ≡ true → is_body k ≡ true
       → is_in ((commands greatest_size).reads c n) (stat_rank (object_of (key_of_rank k))) ≡ true
   stat_read k on body =
       stats_asked greatest_size c n (omega arith) numbers paths k (inr (sym (changes_alike k) ∙ on))
       (eqb-true (minor_of (key_of_rank k)) 4 body)
 
-  stat_found : (k : ℕ) → is_in (changed (edits_on c s)) k ≡ true → is_body k ≡ true
+  pub stat_found : (k : ℕ) → is_in (changed (edits_on c s)) k ≡ true → is_body k ≡ true
       → find nat_cmp (stat_rank (object_of (key_of_rank k))) s ≡ at_key n (stat_rank (object_of (key_of_rank k)))
   stat_found k on body =
       saw.agrees (stat_rank (object_of (key_of_rank k)))
       (reads_alike (stat_rank (object_of (key_of_rank k))) ∙ stat_read k on body)
 
   -- what stands in the list afterwards
-  list_then : (k : ℕ) → find nat_cmp k s ≡ at_key n k → find nat_cmp k (list_edited (edits_on c s) s)
+  pub list_then : (k : ℕ) → find nat_cmp k s ≡ at_key n k → find nat_cmp k (list_edited (edits_on c s) s)
       ≡ at_key (edited (edits_on c s) n) k
   list_then k same =
       let (is, rises) = edited_list (edits_on c s) s saw.rises in

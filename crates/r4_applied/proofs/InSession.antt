@@ -56,8 +56,8 @@ module _ (x : BuiltSeen) (was : Session) (txn : ℕ) (h : CanApply x was txn) wh
   pub applies : Applies (commands greatest_size) was txn x.task.command (patch_of_change x.change)
   applies = record {
     unsealed = h.unsealed;
-    touched = touched_by x.task;
-    changed = changed_by x.task;
+    touched = touched_by x h.over.built;
+    changed = changed_by x h.over.built;
     does = does x was.memory was.root _ h.over;
     own = own;
     reach = λ k on from to.

@@ -1,10 +1,11 @@
 -- The keys that a command touches, with the byte that tells where its body stands.
-use Rattle.std.proofs.Common.{◌≡◌, inl, inr, ℕ, ◌+◌, ◌-◌, ◌<◌, ◌^◌, Bool, true, false, [], ◌∷◌, ◌++◌}
+use Rattle.std.proofs.Common.{◌≡◌, ◌⊎◌, inl, inr, ℕ, ◌+◌, ◌-◌, ◌<◌, ◌^◌, Bool, true, false, [], ◌∷◌, ◌++◌}
 use Rattle.std.proofs.Common.{Option, Some, None, refl, sym, ap, subst, ◌∙◌, arith, option_map}
 use Rattle.std.specs.Prelude.{if◌then◌else◌}
 use Rattle.std.proofs.lemmas.Bool.{cases_Bool, or_cases, or_left, or_right}
 use Rattle.r4_base.specs.Value.{Byte, Content}
-use Rattle.r4_base.specs.Volume.{HasStat, byte_rank, is_directory}
+use Rattle.r4_base.specs.Key.{key_of_rank}
+use Rattle.r4_base.specs.Volume.{HasStat, byte_rank, is_directory, object_of, stat_rank}
 use Rattle.r4_base.specs.declared.items.Attr.{Attr}
 use Rattle.r4_base.specs.declared.items.Target.{Target}
 use Rattle.r4_content.specs.Course.{asked}
@@ -15,12 +16,14 @@ use Rattle.r4_content.specs.Meaning.{course, greatest_size}
 use Rattle.r4_content.specs.Seen.{IsSeen, of_seen}
 use Rattle.r4_content.specs.declared.command.Command.{Command}
 use Rattle.r4_content.proofs.EditLaws.{edited_off, in_append}
+use Rattle.r4_content.specs.Locality.{commands}
+use Rattle.r4_build.specs.Built.{IsBesideByte}
 use Rattle.r4_build.specs.r4_reach.Touched.{Body, body_key, body_of, body_on, edits_on, kind_reads, last_byte, reads_on}
 use Rattle.r4_sets_told.proofs.r4_sets.Bodies.{one_attr}
 use Rattle.r4_sets_told.proofs.r4_sets.Carried.{byte_owner}
 use Rattle.r4_sets_told.specs.Touched.{IsTouchedBy}
-use Rattle.r4_applied.proofs.BodyTold.{bodies_then, changes_alike, grows_where, key, kind_stat, last_is, reads_alike}
-use Rattle.r4_applied.proofs.BodyTold.{same_edits, told}
+use Rattle.r4_applied.proofs.BodyTold.{bodies_then, byte_body, changes_alike, grows_where, key, kind_stat, last_is, reads_alike}
+use Rattle.r4_applied.proofs.BodyTold.{same_edits, stat_read, told}
 
 -- the keys that are read do not depend on where the body stands
 kind_alike : (e : Edits) (s : Pairs) (o : Option ℕ) (ie : Bool)
@@ -132,3 +135,91 @@ module _ (c : Command) (s : Pairs) (n : Content) (saw : IsSeen greatest_size c s
     last_byte = λ o a b was file some now more. last_read o a b was file some
         (subst (λ (d : Edits). HasStat (edited d n) o b) (sym (same_edits c s n saw lawful paths unused)) now) more;
   }
+
+  -- ---- with keys that are moved besides
+
+  module _ (moved : Intervals)
+      (own : (k : ℕ) → is_in moved k ≡ true → (is_in (changed (edits_on c s)) k ≡ true) ⊎ IsBesideByte (edits_on c s) k) where
+    abbrev pub more_changed : Intervals
+    more_changed = moved ++ changed (edits_on c s)
+
+    abbrev pub more_touched : Intervals
+    more_touched = reads_on c s false ++ (moved ++ changed (edits_on c s))
+
+    change_more : (k : ℕ) → is_in (changed (edits_on c s)) k ≡ true → is_in (moved ++ changed (edits_on c s)) k ≡ true
+    change_more k on =
+        in_append moved (changed (edits_on c s)) k ∙ or_right (is_in moved k) (is_in (changed (edits_on c s)) k) on
+
+    pub moved_in : (k : ℕ) → is_in moved k ≡ true → is_in (moved ++ changed (edits_on c s)) k ≡ true
+    moved_in k on =
+        in_append moved (changed (edits_on c s)) k ∙ or_left (is_in moved k) (is_in (changed (edits_on c s)) k) on
+
+    -- it is one that changes, or beside a byte that does
+    owned : (k : ℕ) → is_in (moved ++ changed (edits_on c s)) k ≡ true
+        → (is_in (changed (edits_on c s)) k ≡ true) ⊎ IsBesideByte (edits_on c s) k
+    owned k on = elim (or_cases (is_in moved k) (is_in (changed (edits_on c s)) k)
+        (sym (in_append moved (changed (edits_on c s)) k) ∙ on)) [
+          | inl move ↦ own k move
+          | inr change ↦ inl change
+        ]
+
+    read_more : (k : ℕ) → is_in (reads_on c s false) k ≡ true
+        → is_in (reads_on c s false ++ (moved ++ changed (edits_on c s))) k ≡ true
+    read_more k on =
+        in_append (reads_on c s false) (moved ++ changed (edits_on c s)) k
+        ∙ or_left (is_in (reads_on c s false) k) (is_in (moved ++ changed (edits_on c s)) k) on
+
+    touch_more : (k : ℕ) → is_in (moved ++ changed (edits_on c s)) k ≡ true
+        → is_in (reads_on c s false ++ (moved ++ changed (edits_on c s))) k ≡ true
+    touch_more k on =
+        in_append (reads_on c s false) (moved ++ changed (edits_on c s)) k
+        ∙ or_right (is_in (reads_on c s false) k) (is_in (moved ++ changed (edits_on c s)) k) on
+
+    -- what a plain change touches is touched
+    all_more : (k : ℕ) → is_in all_touched k ≡ true
+        → is_in (reads_on c s false ++ (moved ++ changed (edits_on c s))) k ≡ true
+    all_more k on = elim (or_cases (is_in (reads_on c s false) k) (is_in (changed (edits_on c s)) k)
+        (sym (in_append (reads_on c s false) (changed (edits_on c s)) k) ∙ on)) [
+          | inl read ↦ read_more k read
+          | inr change ↦ touch_more k (change_more k change)
+        ]
+
+    pub touched_by_moves : IsTouchedBy greatest_size c n more_touched more_changed
+    touched_by_moves = record {
+      reads = λ k on. all_more k (touched_by.reads k on);
+      changes = λ k on. change_more k (touched_by.changes k on);
+      within = touch_more;
+      bodies = λ o a y stat lt on. body_beside o a y stat lt (owned (byte_rank o y) on);
+      others = λ k on four. elim (or_cases (is_in (reads_on c s false) k) (is_in (moved ++ changed (edits_on c s)) k)
+          (sym (in_append (reads_on c s false) (moved ++ changed (edits_on c s)) k) ∙ on)) [
+            | inl read ↦ touched_by.others k (read_in k read) four
+            | inr change ↦ elim (owned k change) [
+              | inl edit ↦ touched_by.others k (change_in k edit) four
+              | inr beside ↦ inr (stat_beside k beside)
+            ]
+          ];
+      last_byte = λ o a b was file some now more.
+          all_more (byte_rank o (a.size - 1)) (touched_by.last_byte o a b was file some now more);
+    }
+      where
+        body_beside : (o : Target) (a : Attr) (y : ℕ) → HasStat n o a → y < 2 ^ 64
+            → (is_in (changed (edits_on c s)) (byte_rank o y) ≡ true) ⊎ IsBesideByte (edits_on c s) (byte_rank o y)
+            → (z : ℕ) × (z < 2 ^ 64) × (is_in ((commands greatest_size).changes c n) (byte_rank o z) ≡ true)
+        body_beside o a y stat lt (inl edit) = touched_by.bodies o a y stat lt edit
+        body_beside o a y stat lt (inr beside) =
+            let same : o ≡ beside.object =
+            sym (byte_owner o y stat.0 lt) ∙ ap (λ (q : ℕ). object_of (key_of_rank q)) beside.key
+            ∙ byte_owner beside.object beside.at beside.is beside.within in
+            touched_by.bodies o a beside.other stat beside.small
+            (ap (λ (p : Target). is_in (changed (edits_on c s)) (byte_rank p beside.other)) same ∙ beside.changes)
+
+        stat_beside : (k : ℕ) → IsBesideByte (edits_on c s) k
+            → is_in ((commands greatest_size).reads c n) (stat_rank (object_of (key_of_rank k))) ≡ true
+        stat_beside k beside =
+            let own_is : object_of (key_of_rank k) ≡ object_of (key_of_rank (byte_rank beside.object beside.other)) =
+            ap (λ (q : ℕ). object_of (key_of_rank q)) beside.key
+            ∙ byte_owner beside.object beside.at beside.is beside.within
+            ∙ sym (byte_owner beside.object beside.other beside.is beside.small) in
+            ap (λ (p : Target). is_in ((commands greatest_size).reads c n) (stat_rank p)) own_is
+            ∙ stat_read c s n saw lawful paths unused (byte_rank beside.object beside.other) beside.changes
+            (byte_body beside.object beside.other beside.is beside.small)

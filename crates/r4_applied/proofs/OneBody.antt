@@ -1,6 +1,6 @@
 -- The keys of bodies that a command's edits change are of one file, and each interval of them begins with one.
 use Rattle.std.specs.Prelude.{◌≡◌, ◌⊎◌, ℕ, ◌+◌, ◌*◌, ◌/◌, ◌%◌, ◌^◌, ◌<◌, ◌≤◌, List, [], ◌∷◌, ◌++◌, All, Bool, true}
-use Rattle.std.specs.Prelude.{false}
+use Rattle.std.specs.Prelude.{false, Contains}
 use Rattle.std.specs.Prelude.{◌==◌, nat_le, nat_lt, length, replicate, Some, if◌then◌else◌}
 use Rattle.std.proofs.Common.{arith, inl, inr, refl, sym, ap, subst, ◌∙◌}
 use Rattle.std.proofs.lemmas.Bool.{le-leb, lt-ltb, ltb-true, or_cases, or_left, or_right}
@@ -35,6 +35,7 @@ use Rattle.r4_content.proofs.SameWay.{IsThere}
 use Rattle.r4_content.proofs.Shapes.{entry_dir, stat_back}
 use Rattle.r4_build.specs.r4_reach.Reach.{is_body}
 use Rattle.r4_build.specs.r4_reach.Touched.{body_key}
+use Rattle.r4_sets_told.proofs.r4_patch.Members as Members
 use Rattle.r4_sets_told.proofs.r4_sets.Carried.{byte_owner}
 
 -- The interval is one key that is no body's, or it is of the bytes of this file.
@@ -398,3 +399,35 @@ module _ (e : Edits) (h : IsOneBody e) where
   file_is k on body =
       let (x, lt, is) = of_file k on body in
       ap (λ (q : ℕ). object_of (key_of_rank q)) is ∙ byte_owner h.file x h.object lt
+
+  -- ---- what is cut
+
+  of_all : (rs : Intervals) → All (IsOwn h.file) rs → (r : ℕ × ℕ) → Contains rs r → IsOwn h.file r
+  of_all [] all r has = absurd (Members.none r has)
+  of_all (q ∷ rs) all r has = elim (Members.cases q r rs has) [
+    | inl is ↦ subst (IsOwn h.file) (sym is) (All-head (IsOwn h.file) q rs all)
+    | inr rest ↦ of_all rs (All-tail (IsOwn h.file) q rs all) r rest
+  ]
+
+  own_cut : (r : ℕ × ℕ) → Contains e.cuts r → IsOwn h.file r
+  own_cut = of_all e.cuts h.own.cuts
+
+  -- what begins in a body ends within the file's keys
+  pub cut_ends : (r : ℕ × ℕ) → Contains e.cuts r → is_body r.0 ≡ true → r.1 ≤ byte_rank h.file 0 + 2 ^ 64
+  cut_ends r has body = by (own_cut r has)
+    where
+      by : IsOwn h.file r → r.1 ≤ byte_rank h.file 0 + 2 ^ 64
+      by (inl (next, off)) = absurd (let f : true ≡ false = sym body ∙ off in cc)
+      by (inr (x, y, le, from, to)) =
+          let step : byte_rank h.file (0 + y) ≡ byte_rank h.file 0 + y = byte_after h.file 0 y in
+          let zero : byte_rank h.file (0 + y) ≡ byte_rank h.file y = ap (byte_rank h.file) (omega arith) in
+          omega (arith, step, zero, to, le)
+
+  -- what begins in none has no key of a body
+  pub cut_apart : (r : ℕ × ℕ) → Contains e.cuts r → is_body r.0 ≡ false → (k : ℕ) → is_between r.0 r.1 k ≡ true
+      → is_body k ≡ false
+  cut_apart r has off k on = by (is_body k) refl
+    where
+      by : (t : Bool) → is_body k ≡ t → t ≡ false
+      by false is = refl
+      by true is = absurd (let f : true ≡ false = sym (by_interval r k (own_cut r has) on is).0 ∙ off in cc)

@@ -1,12 +1,15 @@
 -- What was built of a command, in the tree of all atoms (docs/sets.md; docs/volume.md, "Building").
-use Rattle.std.specs.Prelude.{◌≡◌, ℕ, ◌<◌, ◌≤◌, ◌++◌, Contains, List, Option, None, Some, false}
+use mathlib.Core.Logic.{inl, inr}
+use Rattle.std.specs.Prelude.{◌≡◌, ◌⊎◌, ℕ, ◌<◌, ◌≤◌, ◌++◌, [], List, Option, None, false}
 use Rattle.std.specs.Arc.{arc_value}
 use Rattle.r4_base.specs.Tree.{Holds, Root, Store}
 use Rattle.r4_base.specs.Value.{Content, Value}
-use Rattle.r4_build.specs.Built.{BuiltSeen, IsBuilt, IsTaskIn, edits_for}
+use Rattle.r4_build.specs.Built.{BuiltSeen, HasReachOf, IsBuilt, IsMove, IsOfTask, IsPlain, IsTaskOf}
+use Rattle.r4_build.specs.Built.{edits_for}
 use Rattle.r4_build.specs.declared.task.Task.{Task}
-use Rattle.r4_sets_told.specs.r4_cell.Patch.{by_name, root_of_pair}
+use Rattle.r4_sets_told.specs.r4_cell.Patch.{Patch}
 use Rattle.r4_sets_told.specs.r4_cell.Seen.{CellSeen, node_of}
+use Rattle.r4_sets_told.specs.r4_patch.Joining.{patch_of_change}
 use Rattle.r4_sets_told.specs.r4_cell.declared.change.Root.{Root as RootPair}
 use Rattle.r4_content.specs.Edited.{Intervals, changed}
 use Rattle.r4_content.specs.Fields.{HasBytePaths, NamesUnused}
@@ -14,35 +17,10 @@ use Rattle.r4_content.specs.Held.{pairs_of}
 use Rattle.r4_content.specs.Lawful.{IsLawful}
 use Rattle.r4_content.specs.Locality.{commands}
 use Rattle.r4_content.specs.Meaning.{greatest_size}
-use Rattle.r4_build.specs.r4_path.Steps.{IsFree}
-use Rattle.r4_build.specs.r4_reach.Answer.{IsReachOf}
 use Rattle.r4_build.specs.r4_reach.Touched.{reads_on}
 use Rattle.r4_sets_told.specs.r4_sets.Change.{IsFree as IsFreeFor}
 use Rattle.r4_sets_told.specs.r4_sets.Session.{IsTreeOf, Session, all_done}
 use Rattle.r4_sets_told.specs.r4_trace.Traced.{IsSealed, atom_in}
-
--- ---- the task
-
--- The cells of a task's reach, those that it reads and those that it writes.
-abbrev pub IsOfTask : Task → CellSeen → Type 0
-IsOfTask task c = Contains (task.reads ++ task.writes) c
-
--- The task was given what its command reaches, and has seen, among the cells that a reading met in
--- the tree of that time, and where the body that it changes stood; there it may be built.
-pub record IsTaskOf
-    (pair : RootPair) (met : List CellSeen) (rises : Option RootPair) (task : Task) : Type 0 where
-  pub reach : IsReachOf pair task.command met task.reads task.writes rises
-  pub seen : reach.seen ≡ pairs_of (arc_value task.seen)
-  pub kind : reach.in_extents ≡ task.scope.in_extents
-  pub can : IsTaskIn (by_name met) (root_of_pair pair) task
-
--- The tree has the cells of the task's reach, and none of its numbers; where the task has the cell
--- of the root that was met, the tree has that root.
-pub record HasReachOf (u : Store Value) (root : Root) (pair : RootPair) (task : Task) : Type 0 where
-  pub stand : (c : CellSeen) → IsOfTask task c → u c.id ≡ Some (node_of c)
-  pub free : IsFree task.fresh.next task.fresh.end u
-  pub top : (c : CellSeen) → IsOfTask task c → c.id ≡ (root_of_pair pair).id
-      → root ≡ root_of_pair pair
 
 -- ---- what was built of it
 
@@ -61,13 +39,20 @@ pub record IsBuiltOver
   pub paths : HasBytePaths x.task.command
   pub unused : NamesUnused n x.task.command
 
--- the keys that the task's edits change
-abbrev pub changed_by : Task → Intervals
-changed_by task = changed (edits_for task)
+-- the keys whose units the change moves besides those that the edits change: none where it is plain
+abbrev pub moved_by : (task : Task) (p : Patch Value) → IsPlain task p ⊎ IsMove task p → Intervals
+moved_by task p (inl plain) = []
+moved_by task p (inr move) = move.keys
+
+-- the keys that change: those that the task's edits change, and those that are moved
+abbrev pub changed_by : (x : BuiltSeen) → IsBuilt x → Intervals
+changed_by x built =
+    moved_by x.task (patch_of_change x.change) built.made ++ changed (edits_for x.task)
 
 -- these, and those that its command reads
-abbrev pub touched_by : Task → Intervals
-touched_by task = reads_on task.command (pairs_of (arc_value task.seen)) false ++ changed_by task
+abbrev pub touched_by : (x : BuiltSeen) → IsBuilt x → Intervals
+touched_by x built =
+    reads_on x.task.command (pairs_of (arc_value x.task.seen)) false ++ changed_by x built
 
 -- The key lies in a cell of the task's reach.
 pub record IsInReach (task : Task) (k : ℕ) : Type 0 where

@@ -21,9 +21,9 @@ ghost use Rattle.r4_sets_told.specs.r4_sets.Session.{Session};
 /// the command touches. The reply is the command's there, and so are the objects that come and go.
 pub fn built_commands_do()
     ensures does { (x : BuiltSeen) (u : Store Value) (root : Root) (n : Content)
-        → IsBuiltOver x u root n
+        → (over : IsBuiltOver x u root n)
         → Does (commands greatest_size) x.task.command u root n (patch_of_change x.change)
-        (touched_by x.task) (changed_by x.task) }
+        (touched_by x over.built) (changed_by x over.built) }
     ensures reply { (x : BuiltSeen) (u : Store Value) (root : Root) (n : Content)
         → IsBuiltOver x u root n → x.reply ≡ reply greatest_size x.task.command n }
     ensures born { (x : BuiltSeen) (u : Store Value) (root : Root) (n : Content)
@@ -35,8 +35,8 @@ pub fn built_commands_do()
 /// Each key of a tree that it touches lies in a cell of its task's reach.
 pub fn touched_keys_are_reached()
     ensures { (x : BuiltSeen) (u : Store Value) (root : Root) (n : Content) (k : ℕ)
-        → IsBuiltOver x u root n → is_in (touched_by x.task) k ≡ true → least ≤ k → k < top
-        → IsInReach x.task k }
+        → (over : IsBuiltOver x u root n) → is_in (touched_by x over.built) k ≡ true → least ≤ k
+        → k < top → IsInReach x.task k }
 {}
 
 /// So it applies in a session: its change is a command's of an open atom, of cells that no other

@@ -5,3 +5,4 @@
 mod laws;
 
 pub use laws::{built_commands_apply, built_commands_do, touched_keys_are_reached};
+pub use r4_build::{BuildFault, Built, Change, ObjectCounts, Task, build, plan};

@@ -11,6 +11,9 @@ mod telling;
 pub use body_change::{BodyChange, body_changed};
 pub use laws::commands_set_bytes_of_bodies;
 pub use r4_leaf_demands::{
-    Heard, LeafDemands, POINTER_ROOM, all_more, growing, intervals_have, node_bytes, over,
+    Asking, Cell, Demands, Heard, KeyRange, LeafDemands, Marks, POINTER_ROOM, all_more,
+    bytes_after, child_at, edits_of_leaf, growing, has, intervals_have, low_range, mark,
+    meets_fills, meets_intervals, meets_runs, node_bytes, over, part_of, pieces_of_cell,
+    touches_leaf,
 };
 pub use telling::{BodyTold, told_by_body};

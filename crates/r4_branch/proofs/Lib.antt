@@ -15,3 +15,4 @@ pub mod Counted
 pub mod ItemPieces
 -- what crates above name by way of this one
 pub use Rattle.r4_twig.proofs as r4_twig
+pub use Rattle.r4_node40.proofs as r4_node40

@@ -12,5 +12,6 @@ mod twig;
 
 pub use packing::pack_twigs;
 pub use piece::{TwigPart, TwigPiece};
+pub use r4_node40::{ItemView, NodeMut, NodeView};
 pub use reading::{extent_pieces, pieces_of};
 pub use twig::Twig;

@@ -23,7 +23,7 @@ use Rattle.r4_measure.specs.r4_patch.Joining.{patch_of_change}
 use Rattle.r4_measure.specs.r4_patch.Part.{IsPart, MeetsPart}
 use Rattle.r4_measure.proofs.r4_patch.Effects.{content_after}
 use Rattle.r4_build.specs.Building.{set_by}
-use Rattle.r4_build.specs.Built.{BuiltSeen, IsBuilt, edits_for}
+use Rattle.r4_build.specs.Built.{BuiltSeen, IsBuilt, IsPlain, edits_for}
 use Rattle.r4_build.proofs.LeafKeys.{listed_on}
 
 as_set : (o : Option Value) → option_map (λ u. u.0) (in_leaf o) ≡ o
@@ -46,12 +46,15 @@ pub edits_made : (p : Patch Value) (t : Store Value) (root : Root) (e : Edits) (
 edits_made p t root e m part meets effect units =
     content_after p t root (is_in (changed e)) (set_by e) m (edited e m) part meets effect units (set_is e m)
 
-module _ (x : BuiltSeen) (is : IsBuilt x) (m : Content) (saw : IsSeen greatest_size x.task.command (pairs_of (arc_value x.task.seen)) m) where
+module _ (x : BuiltSeen) (plain : IsPlain x.task (patch_of_change x.change)) (m : Content)
+    (saw : IsSeen greatest_size x.task.command (pairs_of (arc_value x.task.seen)) m) where
   pub built_content : (t : Store Value) (root : Root) → IsPart t root → MeetsPart (patch_of_change x.change) t root → HasUnits t m → HasUnits (place (patch_of_change x.change) t) (after greatest_size x.task.command m)
   built_content t root part meets units =
       subst (HasUnits (place (patch_of_change x.change) t)) (ap (λ (e : Ending). edited e.edits m) (seen greatest_size x.task.command (pairs_of (arc_value x.task.seen)) m saw))
-      (edits_made (patch_of_change x.change) t root (edits_for x.task) m part meets is.effect units)
+      (edits_made (patch_of_change x.change) t root (edits_for x.task) m part meets plain.effect units)
 
+module _ (x : BuiltSeen) (is : IsBuilt x) (m : Content)
+    (saw : IsSeen greatest_size x.task.command (pairs_of (arc_value x.task.seen)) m) where
   pub built_reply : x.reply ≡ reply greatest_size x.task.command m
   built_reply = is.reply ∙ ap (λ (e : Ending). e.reply) (seen greatest_size x.task.command (pairs_of (arc_value x.task.seen)) m saw)
 

@@ -10,7 +10,7 @@ ghost use Rattle.r4_leaf_edits.specs.Suiting.{SuitLeaves};
 ghost use Rattle.r4_build.specs.Built.{IsBuilt, IsTaskIn, edits_for};
 
 use crate::building::change_of;
-use crate::counting::{ObjectCounts, born, gone};
+use crate::counting::ObjectCounts;
 use crate::task::{BuildFault, Task};
 use r4_base::Memory;
 use r4_content::{Edits, Reply};
@@ -20,8 +20,8 @@ use r4_outside::Gate;
 use std::alloc::Global;
 use std::marker::Model;
 
-/// What was built of a task: the task as it was, the change, the reply, and how many objects come and go. It cannot be
-/// made but by `build`, so it keeps what `build` promises (docs/volume.md, "Building").
+/// What was built of a task: the task as it was, the change, the reply, and how many objects come and go. It can be made
+/// only of what is promised of these, so it keeps it (docs/volume.md, "Building").
 #[derive(Drop)]
 pub struct Built {
     task: Task,
@@ -51,6 +51,27 @@ impl Model for Built {
 }
 
 impl Built {
+    /// What was built of a task, from its parts (docs/volume.md, "Building").
+    pub fn of(task: Task, change: Change, reply: Reply, objects: ObjectCounts) -> Built
+        requires { IsBuilt (record {
+          task = task;
+          change = change;
+          reply = reply;
+          objects = objects;
+        }) }
+        ensures task { result.task ≡ task }
+        ensures change { result.change ≡ change }
+        ensures reply { result.reply ≡ reply }
+        ensures objects { result.objects ≡ objects }
+    {
+        Built {
+            task,
+            change,
+            reply,
+            objects,
+        }
+    }
+
     /// The task, as it was.
     pub fn task(&self) -> &Task
         ensures { result.now ≡ self.now.task }
@@ -149,10 +170,7 @@ fn parts_in_leaves(alloc: Global, task: &Task) -> Result<(Change, Reply, ObjectC
     let edits = plan(alloc, &task.command, &task.seen)?;
     let mut fresh = task.fresh;
     let change = change_of(alloc, task.writes.as_slice(), &edits, &mut fresh)?;
-    let objects = ObjectCounts {
-        born: born(&task.command, &edits.reply),
-        gone: gone(&edits),
-    };
+    let objects = ObjectCounts::of(&task.command, &edits);
     let Edits { reply, .. } = edits;
     Ok((change, reply, objects))
 }

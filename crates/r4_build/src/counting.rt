@@ -22,8 +22,23 @@ pub struct ObjectCounts {
     pub gone: u64,
 }
 
-/// How many objects a command makes that has this reply.
-pub(crate) fn born(command: &Command, reply: &Reply) -> u64
+impl ObjectCounts {
+    /// How many objects a command makes and takes away that ends with these edits and their reply (docs/commands.md,
+    /// "Objects born and gone").
+    pub fn of(command: &Command, edits: &Edits) -> ObjectCounts
+        ensures born { result.born
+            ≡ (if makes_object command.now && is_okay edits.now.reply then 1 else 0) }
+        ensures gone { result.gone ≡ stats_in (edits_of edits.now).cuts }
+    {
+        ObjectCounts {
+            born: born(command, &edits.reply),
+            gone: gone(edits),
+        }
+    }
+}
+
+// How many objects a command makes that has this reply.
+fn born(command: &Command, reply: &Reply) -> u64
     ensures { result ≡ (if makes_object command.now && is_okay reply.now then 1 else 0) }
 {
     if command.makes_object() && matches!(*reply, Reply::Okay) {
@@ -33,8 +48,8 @@ pub(crate) fn born(command: &Command, reply: &Reply) -> u64
     }
 }
 
-/// How many objects go with edits: one with each stat key that they take away.
-pub(crate) fn gone(edits: &Edits) -> u64
+// How many objects go with edits: one with each stat key that they take away.
+fn gone(edits: &Edits) -> u64
     ensures { result ≡ stats_in (edits_of edits.now).cuts }
 {
     let cuts = edits.cuts.as_slice().iter();

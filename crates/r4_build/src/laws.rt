@@ -24,7 +24,7 @@ ghost use Rattle.r4_measure.specs.r4_work.declared.working.WorkingSet.{WorkingSe
 ghost use Rattle.r4_measure.specs.Begin.{IsReachedFor};
 ghost use Rattle.r4_build.specs.Building.{CanBuild, HaveLawfulKeys, LiesInLeaf, SparesExtents};
 ghost use Rattle.r4_build.specs.Building.{most_new, set_by};
-ghost use Rattle.r4_build.specs.Built.{BuiltSeen, HasOldRoot, IsBuilt};
+ghost use Rattle.r4_build.specs.Built.{BuiltSeen, HasOldRoot, IsBuilt, IsPlain};
 ghost use Rattle.r4_build.specs.Making.{CanMake, MakeAtMost};
 
 /// A change that sets what edits set, and nothing else, makes of a tree's content what the edits make of it: in every
@@ -65,11 +65,11 @@ pub fn built_changes_fit()
         → MeetsPart (patch_of_change x.change) t r }
 {}
 
-/// What was built of a task makes of each part of a tree that it fits on what the command means, and the reply is the
-/// command's, as are the objects that come and go, where what was seen is what stands there at the keys that the
-/// command asks for.
+/// What was built of a task in leaves makes of each part of a tree that it fits on what the command means. The reply is
+/// the command's, as are the objects that come and go, wherever it was built. So it is where what was seen is what stands
+/// there at the keys that the command asks for.
 pub fn what_is_built_is_meant()
-    ensures content { (x : BuiltSeen) (t : Store Value) (root : Root) (m : Content) → IsBuilt x
+    ensures content { (x : BuiltSeen) (t : Store Value) (root : Root) (m : Content) → IsPlain x.task (patch_of_change x.change)
         → IsPart t root → MeetsPart (patch_of_change x.change) t root → HasUnits t m
         → IsSeen greatest_size x.task.command (pairs_of (arc_value x.task.seen)) m
         → HasUnits (place (patch_of_change x.change) t) (after greatest_size x.task.command m) }

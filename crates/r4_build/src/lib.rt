@@ -1,4 +1,4 @@
-//! The change that a command makes of the cells of its task, where its edits lie in leaves (docs/volume.md,
+//! What is built of a task, and the change that its command makes where its edits lie in leaves (docs/volume.md,
 //! "Building").
 #![tactic(auto)]
 
@@ -18,5 +18,13 @@ pub use laws::{
     what_is_built_is_meant,
 };
 pub use r4_file::plan;
-pub use r4_measure::by_place;
+pub use r4_leaf_edits::{
+    KeyRange, Leaf, Level, add, edits_of_leaf, leaf_level, pieces_of_cell, place_of, put_among,
+    remake, splice, take_number,
+};
+pub use r4_measure::{
+    Change, LeafParts, WorkingSet, add_pointer, by_place, cells_of, left_part, pieces_parted,
+    right_part,
+};
+pub use r4_turns::{Cell, Cells, Fresh, NodeView, new_cell};
 pub use task::{BuildFault, Task};

@@ -13,7 +13,7 @@ pub use cell::Cell;
 pub use change::{Cells, Change, Fresh, Root};
 pub use laws::{cell_law, equal_keys_law, on_disk_law};
 pub use r4_base::{CellFault, Key, NodeId};
-pub use r4_node40::NodeView;
+pub use r4_node40::{ItemView, NodeMut, NodeView};
 pub use r4_twig::{pointer, put_pointer};
 pub use range::{least, top};
 pub use reading::{new_cell, read_cell};

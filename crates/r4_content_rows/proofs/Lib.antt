@@ -19,6 +19,6 @@ mod Refusing
 mod Removing
 mod Replied
 mod Runs
-mod SameKind
+pub mod SameKind
 mod TwoFiles
 mod Unlinking

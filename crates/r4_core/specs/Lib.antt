@@ -25,3 +25,4 @@ pub use Rattle.r4_start.specs as r4_start
 pub use Rattle.r4_ready.specs.r4_taking
 pub use Rattle.r4_trace.specs as r4_trace
 pub use Rattle.r4_wander.specs as r4_wander
+pub use Rattle.r4_ready.specs.r4_suited

@@ -33,3 +33,6 @@ pub mod Remade
 pub use Rattle.r4_path.proofs.r4_leaf
 pub use Rattle.r4_path.proofs.r4_patch
 pub use Rattle.r4_path.proofs as r4_path
+pub use Rattle.r4_path.proofs.r4_cell
+pub use Rattle.r4_path.proofs.r4_branch
+pub use Rattle.r4_path.proofs.r4_graft

@@ -18,6 +18,9 @@ pub use graft_laws::{
 };
 pub use leaf_parts::{LeafParts, left_part, right_part};
 pub use over::{add_pointer, cells_of};
-pub use r4_path::{Cell, Cells, Change, Fresh, Given, KeyRange, follow};
+pub use r4_path::{
+    Cell, Cells, Change, Fresh, Given, KeyRange, TwigPart, TwigPiece, add, extent_pieces, follow,
+    graft_below, pieces_of_cell, place_of, splice, take_number,
+};
 pub use remaking::change_leaf;
 pub use splitting::split;

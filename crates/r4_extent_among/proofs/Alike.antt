@@ -3,12 +3,12 @@ use Rattle.std.proofs.Common.{map, ◌≡◌, ℕ, ◌+◌, ◌*◌, ◌^◌, Li
 use Rattle.std.specs.Prelude.{None, Option, Some, nat_lt, if◌then◌else◌}
 use Rattle.std.proofs.lemmas.List.{drop-map, map-append, take-map}
 use Rattle.r4_base.specs.Key.{key_of_rank, offset_of, rank}
-use Rattle.r4_branch.specs.Pieces.{bytes_behind, open_end, part_bytes, twig_bytes}
-use Rattle.r4_branch.specs.declared.piece.TwigPart.{TwigPart}
-use Rattle.r4_branch.specs.declared.piece.TwigPart.TheVariants.{Blocks, Pointer}
-use Rattle.r4_branch.specs.declared.piece.TwigPiece.{TwigPiece}
-use Rattle.r4_cell.specs.Seen.{CellSeen}
-use Rattle.r4_graft.specs.Splices.{place, spliced}
+use Rattle.r4_build.specs.r4_branch.Pieces.{bytes_behind, open_end, part_bytes, twig_bytes}
+use Rattle.r4_build.specs.r4_branch.declared.piece.TwigPart.{TwigPart}
+use Rattle.r4_build.specs.r4_branch.declared.piece.TwigPart.TheVariants.{Blocks, Pointer}
+use Rattle.r4_build.specs.r4_branch.declared.piece.TwigPiece.{TwigPiece}
+use Rattle.r4_extent_build.specs.r4_cell.Seen.{CellSeen}
+use Rattle.r4_extent_build.specs.r4_graft.Splices.{place, spliced}
 use Rattle.r4_extent_among.specs.Among.{numbered, pointer_of, with_leaves}
 
 -- a piece, of which a pointer's number is left out

@@ -10,14 +10,14 @@ use Rattle.r4_base.specs.Node.{Item, items_of}
 use Rattle.r4_base.specs.Tree.{InName, InSpan, IsData, Name, Span}
 use Rattle.r4_base.specs.Value.{Byte, Value}
 use Rattle.r4_base.specs.declared.items.Unit.{Unit as ExtentUnit}
-use Rattle.r4_branch.specs.Items.{IsSoundItem, Lie}
-use Rattle.r4_branch.proofs.SoundItems.{extent_item, pointer_item}
-use Rattle.r4_cell.specs.Seen.{CellSeen, node_of}
-use Rattle.r4_graft.proofs.FoundPlaces.{runs_level}
-use Rattle.r4_leaf.specs.Units.{LeafUnit}
-use Rattle.r4_patch.proofs.Members.{cases, here, later, none}
-use Rattle.r4_path.specs.Sharing.{IsSound}
-use Rattle.r4_path.proofs.CellNodes.{names_are, spans_are, units_are}
+use Rattle.r4_build.specs.r4_branch.Items.{IsSoundItem, Lie}
+use Rattle.r4_build.proofs.r4_branch.SoundItems.{extent_item, pointer_item}
+use Rattle.r4_extent_build.specs.r4_cell.Seen.{CellSeen, node_of}
+use Rattle.r4_extent_build.proofs.r4_graft.FoundPlaces.{runs_level}
+use Rattle.r4_build.specs.r4_leaf.Units.{LeafUnit}
+use Rattle.r4_build.proofs.r4_patch.Members.{cases, here, later, none}
+use Rattle.r4_build.specs.r4_path.Sharing.{IsSound}
+use Rattle.r4_build.proofs.r4_path.CellNodes.{names_are, spans_are, units_are}
 use Rattle.r4_extent_among.proofs.SpansRise.{SpansRise, item_wide, lie, lie_again, lie_order, spans_rise}
 
 -- ---- runs and zeros

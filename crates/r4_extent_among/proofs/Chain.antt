@@ -4,22 +4,22 @@ use Rattle.std.specs.Prelude.{Contains, Option}
 use Rattle.std.proofs.lemmas.List.Elements.{Contains-append_cases}
 use Rattle.r4_base.specs.Key.{rank}
 use Rattle.r4_base.specs.Tree.{IsNode, Span}
-use Rattle.r4_cell.specs.Seen.{CellSeen, node_of}
+use Rattle.r4_extent_build.specs.r4_cell.Seen.{CellSeen, node_of}
 use Rattle.r4_content.specs.Edited.{Edits, is_between}
 use Rattle.r4_content.specs.Listed.{list_edited}
-use Rattle.r4_edit.specs.Extents.{AreAmongExtents}
-use Rattle.r4_edit.proofs.AmongExtents.{among_extents}
-use Rattle.r4_edit.proofs.OverLeaf.{leaf_node}
-use Rattle.r4_extent_demands.specs.Putting.{put_into}
-use Rattle.r4_leaf.specs.Units.{LeafUnit}
-use Rattle.r4_patch.proofs.Members.{cases, here, later, none}
-use Rattle.r4_path.specs.Sharing.{IsSound}
-use Rattle.r4_path.specs.Steps.{Follow}
-use Rattle.r4_path.specs.TwigPieces.{twig_pieces}
-use Rattle.r4_path.proofs.Rising.{follow_order, follow_within}
-use Rattle.r4_reach.specs.Needs.{leaf_edits}
-use Rattle.r4_reach.specs.Touched.{Body}
-use Rattle.r4_work.proofs.UnitMembers.{between, filtered}
+use Rattle.r4_extent_build.specs.r4_edit.Extents.{AreAmongExtents}
+use Rattle.r4_build.proofs.r4_edit.AmongExtents.{among_extents}
+use Rattle.r4_build.proofs.r4_edit.OverLeaf.{leaf_node}
+use Rattle.r4_extent_build.specs.r4_extent_demands.Putting.{put_into}
+use Rattle.r4_build.specs.r4_leaf.Units.{LeafUnit}
+use Rattle.r4_build.proofs.r4_patch.Members.{cases, here, later, none}
+use Rattle.r4_build.specs.r4_path.Sharing.{IsSound}
+use Rattle.r4_build.specs.r4_path.Steps.{Follow}
+use Rattle.r4_build.specs.r4_path.TwigPieces.{twig_pieces}
+use Rattle.r4_build.proofs.r4_path.Rising.{follow_order, follow_within}
+use Rattle.r4_build.specs.r4_reach.Needs.{leaf_edits}
+use Rattle.r4_build.specs.r4_reach.Touched.{Body}
+use Rattle.r4_build.proofs.r4_work.UnitMembers.{between, filtered}
 use Rattle.r4_extent_among.specs.Among.{AreLeavesFor, AreLeavesIn, IsAmong}
 use Rattle.r4_extent_among.proofs.Behind.{LieApart, lie_behind}
 use Rattle.r4_extent_among.proofs.SpansRise.{IsEnd, SpansRise, twig_ends, twig_spans}

@@ -9,37 +9,37 @@ use Rattle.r4_base.specs.Key.{rank}
 use Rattle.r4_base.specs.Tree.{Node, Root, Store}
 use Rattle.r4_base.specs.Value.{Value}
 use Rattle.r4_base.proofs.Trees.{one_cell}
-use Rattle.r4_branch.specs.declared.piece.TwigPiece.{TwigPiece}
+use Rattle.r4_build.specs.r4_branch.declared.piece.TwigPiece.{TwigPiece}
 use Rattle.r4_build.specs.Making.{IsOf}
-use Rattle.r4_cell.specs.Seen.{CellSeen, node_of}
-use Rattle.r4_cell.specs.declared.change.Fresh.{Fresh}
+use Rattle.r4_extent_build.specs.r4_cell.Seen.{CellSeen, node_of}
+use Rattle.r4_extent_build.specs.r4_cell.declared.change.Fresh.{Fresh}
 use Rattle.r4_content.specs.Edited.{Edits}
 use Rattle.r4_extent_build.proofs.r4_twig_turns.KeptTurn.{kept, stood}
 use Rattle.r4_extent_build.proofs.r4_twig_turns.TurnByTurn.{can_turn, next_working}
 use Rattle.r4_extent_build.specs.Looping.{AreTurned}
 use Rattle.r4_extent_build.specs.r4_twig_turns.Turning.{IsReady, IsTurnOf, IsTurned, TwigTurn, behind, own_of}
-use Rattle.r4_measure.proofs.Climb.{in_left}
-use Rattle.r4_measure.proofs.Loop.{from_new, of_id}
-use Rattle.r4_measure.proofs.Placed.{still_in}
-use Rattle.r4_measure.specs.Budget.{Budget, most_from}
-use Rattle.r4_measure.specs.Grafting.{Beside, IsQuietBelow}
-use Rattle.r4_measure.specs.Measured.{IsMeasured}
-use Rattle.r4_patch.proofs.Followed.{among_cell, among_or_not, cell_among, in_without, to_without}
-use Rattle.r4_patch.proofs.Members.{absent, cases, have_names, here, later, none}
-use Rattle.r4_patch.proofs.PartCells.{apart, one_above}
-use Rattle.r4_patch.specs.Following.{is_among, without}
-use Rattle.r4_patch.specs.Joining.{ids_of}
-use Rattle.r4_patch.specs.Part.{IsPart}
-use Rattle.r4_path.proofs.Begun.{ascends_take}
-use Rattle.r4_path.proofs.Rising.{count_within, hi_is, id_member, in_node, level_is, lo_is}
-use Rattle.r4_path.proofs.Upwards.{long_ids}
-use Rattle.r4_path.specs.Grafts.{extra_twigs}
-use Rattle.r4_path.specs.Steps.{Ascends, Step, fresh_ids, name_of, news, olds}
-use Rattle.r4_reach.specs.Touched.{Body}
-use Rattle.r4_work.proofs.InPlace.{now_part, standing_is}
-use Rattle.r4_work.proofs.Paths.{ascends_from, lowest_from}
-use Rattle.r4_work.specs.Working.{IsWorking, now_of, root_of, standing}
-use Rattle.r4_work.specs.declared.working.WorkingSet.{WorkingSet}
+use Rattle.r4_build.proofs.r4_measure.Climb.{in_left}
+use Rattle.r4_build.proofs.r4_measure.Loop.{from_new, of_id}
+use Rattle.r4_build.proofs.r4_measure.Placed.{still_in}
+use Rattle.r4_build.specs.r4_measure.Budget.{Budget, most_from}
+use Rattle.r4_build.specs.r4_measure.Grafting.{Beside, IsQuietBelow}
+use Rattle.r4_build.specs.r4_measure.Measured.{IsMeasured}
+use Rattle.r4_build.proofs.r4_patch.Followed.{among_cell, among_or_not, cell_among, in_without, to_without}
+use Rattle.r4_build.proofs.r4_patch.Members.{absent, cases, have_names, here, later, none}
+use Rattle.r4_build.proofs.r4_patch.PartCells.{apart, one_above}
+use Rattle.r4_build.specs.r4_patch.Following.{is_among, without}
+use Rattle.r4_build.specs.r4_patch.Joining.{ids_of}
+use Rattle.r4_build.specs.r4_patch.Part.{IsPart}
+use Rattle.r4_build.proofs.r4_path.Begun.{ascends_take}
+use Rattle.r4_build.proofs.r4_path.Rising.{count_within, hi_is, id_member, in_node, level_is, lo_is}
+use Rattle.r4_build.proofs.r4_path.Upwards.{long_ids}
+use Rattle.r4_build.specs.r4_path.Grafts.{extra_twigs}
+use Rattle.r4_build.specs.r4_path.Steps.{Ascends, Step, fresh_ids, name_of, news, olds}
+use Rattle.r4_build.specs.r4_reach.Touched.{Body}
+use Rattle.r4_build.proofs.r4_work.InPlace.{now_part, standing_is}
+use Rattle.r4_build.proofs.r4_work.Paths.{ascends_from, lowest_from}
+use Rattle.r4_build.specs.r4_work.Working.{IsWorking, now_of, root_of, standing}
+use Rattle.r4_build.specs.r4_work.declared.working.WorkingSet.{WorkingSet}
 use Rattle.r4_extent_among.specs.Among.{AreNewLeaves, among_turn}
 use Rattle.r4_extent_among.specs.AmongIn.{MayPutAmong, turns_among}
 use Rattle.r4_extent_among.specs.LeavesLeft.{LeavesLeaves}

@@ -5,22 +5,22 @@ use Rattle.r4_base.specs.Cell.{cell_fault, units_in}
 use Rattle.r4_base.specs.Key.{rank}
 use Rattle.r4_base.specs.Node.{Item, items_of}
 use Rattle.r4_base.specs.declared.key.Key.{Key}
-use Rattle.r4_cell.specs.Seen.{CellSeen, node_of}
+use Rattle.r4_extent_build.specs.r4_cell.Seen.{CellSeen, node_of}
 use Rattle.r4_content.specs.Edited.{Edits}
-use Rattle.r4_edit.proofs.LeafLent.{lent_stands, lent_units}
-use Rattle.r4_extent_demands.specs.Putting.{put_into}
-use Rattle.r4_extent_demands.specs.Sizes.{AreExtentEdits}
-use Rattle.r4_leaf.specs.Items.{Lie}
-use Rattle.r4_leaf.specs.Leaves.{AreFew, Packs}
-use Rattle.r4_leaf.specs.Remade.{AreWithin, CanPutAll, cut_all, put_all, units_after as units_left}
-use Rattle.r4_leaf.specs.Units.{LeafUnit, bytes_behind, leaf_bytes}
-use Rattle.r4_leaf.specs.declared.leaf.Leaf.{Leaf}
-use Rattle.r4_leaf.specs.declared.remaking.Given.{Given}
-use Rattle.r4_leaf.specs.declared.remaking.KeyRange.{KeyRange}
-use Rattle.r4_leaf.proofs.Standing.{stand_lie}
-use Rattle.r4_leaf_edits.specs.Made.{MakesEdits}
-use Rattle.r4_reach.specs.Needs.{leaf_edits}
-use Rattle.r4_reach.specs.Touched.{Body}
+use Rattle.r4_build.proofs.r4_edit.LeafLent.{lent_stands, lent_units}
+use Rattle.r4_extent_build.specs.r4_extent_demands.Putting.{put_into}
+use Rattle.r4_extent_build.specs.r4_extent_demands.Sizes.{AreExtentEdits}
+use Rattle.r4_build.specs.r4_leaf.Items.{Lie}
+use Rattle.r4_build.specs.r4_leaf.Leaves.{AreFew, Packs}
+use Rattle.r4_build.specs.r4_leaf.Remade.{AreWithin, CanPutAll, cut_all, put_all, units_after as units_left}
+use Rattle.r4_build.specs.r4_leaf.Units.{LeafUnit, bytes_behind, leaf_bytes}
+use Rattle.r4_build.specs.r4_leaf.declared.leaf.Leaf.{Leaf}
+use Rattle.r4_build.specs.r4_leaf.declared.remaking.Given.{Given}
+use Rattle.r4_build.specs.r4_leaf.declared.remaking.KeyRange.{KeyRange}
+use Rattle.r4_extent_build.proofs.r4_leaf.Standing.{stand_lie}
+use Rattle.r4_build.specs.r4_leaf_edits.Made.{MakesEdits}
+use Rattle.r4_build.specs.r4_reach.Needs.{leaf_edits}
+use Rattle.r4_build.specs.r4_reach.Touched.{Body}
 
 pub no_bytes : leaf_bytes [] ≡ 0
 unfolding bytes_behind

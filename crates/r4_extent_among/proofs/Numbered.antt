@@ -4,17 +4,17 @@ use Rattle.std.specs.Prelude.{Contains, Option}
 use Rattle.r4_base.specs.Key.{rank}
 use Rattle.r4_base.specs.Node.{mkfs_id_of}
 use Rattle.r4_base.specs.Tree.{Span}
-use Rattle.r4_cell.specs.Seen.{CellSeen, node_of}
+use Rattle.r4_extent_build.specs.r4_cell.Seen.{CellSeen, node_of}
 use Rattle.r4_content.specs.Edited.{Edits}
-use Rattle.r4_extent_demands.specs.Putting.{put_into}
-use Rattle.r4_leaf.specs.Units.{LeafUnit}
-use Rattle.r4_patch.specs.Joining.{ids_of}
-use Rattle.r4_patch.proofs.Members.{Distinct, cases, here, later, none}
-use Rattle.r4_path.specs.Levels.{units_of_cells}
-use Rattle.r4_path.specs.Sharing.{IsSound}
-use Rattle.r4_path.specs.Steps.{CountUp, Follow}
-use Rattle.r4_path.proofs.Rising.{count_within, id_member}
-use Rattle.r4_reach.specs.Touched.{Body}
+use Rattle.r4_extent_build.specs.r4_extent_demands.Putting.{put_into}
+use Rattle.r4_build.specs.r4_leaf.Units.{LeafUnit}
+use Rattle.r4_build.specs.r4_patch.Joining.{ids_of}
+use Rattle.r4_build.proofs.r4_patch.Members.{Distinct, cases, here, later, none}
+use Rattle.r4_build.specs.r4_path.Levels.{units_of_cells}
+use Rattle.r4_build.specs.r4_path.Sharing.{IsSound}
+use Rattle.r4_build.specs.r4_path.Steps.{CountUp, Follow}
+use Rattle.r4_build.proofs.r4_path.Rising.{count_within, id_member}
+use Rattle.r4_build.specs.r4_reach.Touched.{Body}
 use Rattle.r4_extent_among.specs.Among.{AreLeavesFor, AreLeavesIn, HaveValues, numbered}
 
 pub numbered_long : (n : ℕ) (cs : List CellSeen) → length (numbered n cs) ≡ length cs

@@ -4,21 +4,21 @@ use Rattle.std.specs.Prelude.{Contains, Option}
 use Rattle.r4_base.specs.Key.{rank}
 use Rattle.r4_base.specs.Tree.{IsNode, Root, Span, Store}
 use Rattle.r4_base.specs.Value.{Value}
-use Rattle.r4_branch.specs.declared.piece.TwigPiece.{TwigPiece}
-use Rattle.r4_cell.specs.Seen.{CellSeen, node_of}
-use Rattle.r4_cell.specs.declared.change.Fresh.{Fresh}
+use Rattle.r4_build.specs.r4_branch.declared.piece.TwigPiece.{TwigPiece}
+use Rattle.r4_extent_build.specs.r4_cell.Seen.{CellSeen, node_of}
+use Rattle.r4_extent_build.specs.r4_cell.declared.change.Fresh.{Fresh}
 use Rattle.r4_content.specs.Edited.{Edits}
 use Rattle.r4_extent_build.specs.Looping.{AreTurned}
 use Rattle.r4_extent_build.specs.r4_twig_turns.Turning.{IsTurned, TwigTurn, own_of}
-use Rattle.r4_leaf.specs.declared.remaking.KeyRange.{KeyRange}
-use Rattle.r4_leaf_demands.specs.Touching.{span_of}
-use Rattle.r4_measure.specs.Grafting.{Beside, IsRegrafted}
-use Rattle.r4_patch.proofs.Members.{cases, here, later, none}
-use Rattle.r4_path.specs.Sharing.{IsSound}
-use Rattle.r4_path.specs.TwigPieces.{twig_pieces}
-use Rattle.r4_reach.specs.Touched.{Body}
-use Rattle.r4_twig_work.specs.Regrafting.{DoesBelow, IsRegraftable}
-use Rattle.r4_work.specs.declared.working.WorkingSet.{WorkingSet}
+use Rattle.r4_build.specs.r4_leaf.declared.remaking.KeyRange.{KeyRange}
+use Rattle.r4_extent_build.specs.r4_leaf_demands.Touching.{span_of}
+use Rattle.r4_build.specs.r4_measure.Grafting.{Beside, IsRegrafted}
+use Rattle.r4_build.proofs.r4_patch.Members.{cases, here, later, none}
+use Rattle.r4_build.specs.r4_path.Sharing.{IsSound}
+use Rattle.r4_build.specs.r4_path.TwigPieces.{twig_pieces}
+use Rattle.r4_build.specs.r4_reach.Touched.{Body}
+use Rattle.r4_extent_build.specs.r4_twig_work.Regrafting.{DoesBelow, IsRegraftable}
+use Rattle.r4_build.specs.r4_work.declared.working.WorkingSet.{WorkingSet}
 use Rattle.r4_extent_among.specs.Among.{AreNewLeaves, among_turn, numbered, with_leaves}
 use Rattle.r4_extent_among.specs.AmongIn.{CanPutAmong, HasPutAmong, turns_among}
 use Rattle.r4_extent_among.specs.Making.{IsLeafRange}

@@ -7,25 +7,25 @@ use Rattle.r4_base.specs.Key.{least, rank, top}
 use Rattle.r4_base.specs.Node.{mkfs_id_of}
 use Rattle.r4_base.specs.Tree.{IsNode}
 use Rattle.r4_base.specs.declared.key.Key.{Key}
-use Rattle.r4_cell.specs.Seen.{CellSeen, node_of}
-use Rattle.r4_cell.specs.declared.change.Fresh.{Fresh}
-use Rattle.r4_edit.specs.LeafParts.{HasRight, IsEmptyLeaf, IsRightPart, first_from, right_id, units_from}
-use Rattle.r4_edit.proofs.NewLeaves.{leaf_node}
-use Rattle.r4_leaf.specs.Leaves.{AreFew, Packs}
-use Rattle.r4_leaf.specs.Units.{LeafUnit, leaf_bytes}
-use Rattle.r4_leaf.specs.declared.leaf.Leaf.{Leaf}
-use Rattle.r4_leaf.specs.declared.remaking.KeyRange.{KeyRange}
-use Rattle.r4_patch.specs.Joining.{ids_of}
-use Rattle.r4_patch.proofs.Members.{cases, here, later}
-use Rattle.r4_path.specs.LeafSteps.{IsLeafStep, leaf_cells}
-use Rattle.r4_path.specs.Levels.{units_of_cells}
-use Rattle.r4_path.specs.Sharing.{IsSound}
-use Rattle.r4_path.specs.Steps.{CountUp, Follow, Step}
-use Rattle.r4_path.proofs.CellNodes.{units_are}
-use Rattle.r4_path.proofs.LeafCells.{counts_next}
-use Rattle.r4_path.proofs.Rising.{follow_within, in_cell}
-use Rattle.r4_path.proofs.Upwards.{long_ids}
-use Rattle.r4_reach.specs.Needs.{leaves_for, over}
+use Rattle.r4_extent_build.specs.r4_cell.Seen.{CellSeen, node_of}
+use Rattle.r4_extent_build.specs.r4_cell.declared.change.Fresh.{Fresh}
+use Rattle.r4_extent_build.specs.r4_edit.LeafParts.{HasRight, IsEmptyLeaf, IsRightPart, first_from, right_id, units_from}
+use Rattle.r4_build.proofs.r4_edit.NewLeaves.{leaf_node}
+use Rattle.r4_build.specs.r4_leaf.Leaves.{AreFew, Packs}
+use Rattle.r4_build.specs.r4_leaf.Units.{LeafUnit, leaf_bytes}
+use Rattle.r4_build.specs.r4_leaf.declared.leaf.Leaf.{Leaf}
+use Rattle.r4_build.specs.r4_leaf.declared.remaking.KeyRange.{KeyRange}
+use Rattle.r4_build.specs.r4_patch.Joining.{ids_of}
+use Rattle.r4_build.proofs.r4_patch.Members.{cases, here, later}
+use Rattle.r4_build.specs.r4_path.LeafSteps.{IsLeafStep, leaf_cells}
+use Rattle.r4_build.specs.r4_path.Levels.{units_of_cells}
+use Rattle.r4_build.specs.r4_path.Sharing.{IsSound}
+use Rattle.r4_build.specs.r4_path.Steps.{CountUp, Follow, Step}
+use Rattle.r4_build.proofs.r4_path.CellNodes.{units_are}
+use Rattle.r4_build.proofs.r4_path.LeafCells.{counts_next}
+use Rattle.r4_build.proofs.r4_path.Rising.{follow_within, in_cell}
+use Rattle.r4_build.proofs.r4_path.Upwards.{long_ids}
+use Rattle.r4_build.specs.r4_reach.Needs.{leaves_for, over}
 use Rattle.r4_extent_among.specs.Among.{AreLeavesFor}
 use Rattle.r4_extent_among.specs.Making.{ArePackedFrom, IsLeafRange}
 use Rattle.r4_extent_among.proofs.MadeLeaves.{no_bytes}

@@ -3,28 +3,28 @@ use Rattle.std.proofs.Common.{◌≡◌, ◌≢◌, inl, inr, ℕ, Bool, List, [
 use Rattle.std.specs.Prelude.{◌↔◌, Option}
 use Rattle.r4_base.specs.Tree.{Holds, Node, Root, Store}
 use Rattle.r4_base.specs.Value.{Value}
-use Rattle.r4_branch.specs.Pieces.{twig_bytes, units_of}
-use Rattle.r4_branch.specs.declared.piece.TwigPiece.{TwigPiece}
+use Rattle.r4_build.specs.r4_branch.Pieces.{twig_bytes, units_of}
+use Rattle.r4_build.specs.r4_branch.declared.piece.TwigPiece.{TwigPiece}
 use Rattle.r4_build.specs.Building.{set_by}
-use Rattle.r4_cell.specs.Seen.{CellSeen, node_of}
-use Rattle.r4_cell.specs.declared.change.Fresh.{Fresh}
+use Rattle.r4_extent_build.specs.r4_cell.Seen.{CellSeen, node_of}
+use Rattle.r4_extent_build.specs.r4_cell.declared.change.Fresh.{Fresh}
 use Rattle.r4_content.specs.Edited.{Edits}
 use Rattle.r4_extent_build.specs.Looping.{AreTurned}
 use Rattle.r4_extent_build.specs.r4_twig_turns.Turning.{AreReady, CanRegraftAll, IsReady, TurnAtMost, behind, come_at_most, numbers_for}
 use Rattle.r4_extent_build.proofs.r4_twig_turns.TurnByTurn.{all_turns, few_stand}
-use Rattle.r4_measure.specs.Budget.{AreUnplaced, Budget, most_from}
-use Rattle.r4_measure.specs.Grafting.{Beside, comes_below}
-use Rattle.r4_patch.specs.Effect.{Placed}
-use Rattle.r4_patch.specs.Part.{IsPart}
-use Rattle.r4_patch.proofs.Members.{none}
-use Rattle.r4_path.proofs.Rising.{hi_is, level_is, lo_is}
-use Rattle.r4_reach.specs.Needs.{leaf_edits}
-use Rattle.r4_reach.specs.Touched.{Body}
-use Rattle.r4_twig_work.specs.Regrafting.{SetsBelow, StandsBelow}
-use Rattle.r4_work.specs.Remaking.{Changes}
-use Rattle.r4_work.specs.Working.{IsWorking, now_of, root_of, standing}
-use Rattle.r4_work.specs.declared.working.WorkingSet.{WorkingSet}
-use Rattle.r4_work.proofs.InPlace.{now_part, standing_is}
+use Rattle.r4_build.specs.r4_measure.Budget.{AreUnplaced, Budget, most_from}
+use Rattle.r4_build.specs.r4_measure.Grafting.{Beside, comes_below}
+use Rattle.r4_build.specs.r4_patch.Effect.{Placed}
+use Rattle.r4_build.specs.r4_patch.Part.{IsPart}
+use Rattle.r4_build.proofs.r4_patch.Members.{none}
+use Rattle.r4_build.proofs.r4_path.Rising.{hi_is, level_is, lo_is}
+use Rattle.r4_build.specs.r4_reach.Needs.{leaf_edits}
+use Rattle.r4_build.specs.r4_reach.Touched.{Body}
+use Rattle.r4_extent_build.specs.r4_twig_work.Regrafting.{SetsBelow, StandsBelow}
+use Rattle.r4_build.specs.r4_work.Remaking.{Changes}
+use Rattle.r4_build.specs.r4_work.Working.{IsWorking, now_of, root_of, standing}
+use Rattle.r4_build.specs.r4_work.declared.working.WorkingSet.{WorkingSet}
+use Rattle.r4_build.proofs.r4_work.InPlace.{now_part, standing_is}
 use Rattle.r4_extent_among.specs.Among.{AreNewLeaves, IsAmong, among_need, among_turn, is_put_among, more_twigs}
 use Rattle.r4_extent_among.specs.AmongIn.{CanPutAmong, IsAmongIn, MayPutAmong, numbers_among, turns_among}
 use Rattle.r4_extent_among.specs.LeavesLeft.{LeavesLeaves}

@@ -10,25 +10,25 @@ use Rattle.std.proofs.lemmas.Option.{none-some, same_Some}
 use Rattle.r4_base.specs.Node.{mkfs_id_of}
 use Rattle.r4_base.specs.Tree.{Span}
 use Rattle.r4_base.specs.Value.{Value}
-use Rattle.r4_branch.specs.Pieces.{units_of}
+use Rattle.r4_build.specs.r4_branch.Pieces.{units_of}
 use Rattle.r4_build.specs.Building.{set_by}
 use Rattle.r4_build.proofs.Pairs.{found_in, rising_found}
-use Rattle.r4_cell.specs.Seen.{CellSeen, node_of}
+use Rattle.r4_extent_build.specs.r4_cell.Seen.{CellSeen, node_of}
 use Rattle.r4_content.specs.Edited.{Edits, is_between}
 use Rattle.r4_content.specs.Listed.{list_edited}
 use Rattle.r4_content.specs.Seen.{Rises}
-use Rattle.r4_extent_demands.proofs.PutsInto.{any_there, there_any}
-use Rattle.r4_leaf.specs.Units.{LeafUnit}
-use Rattle.r4_leaf_edits.proofs.Lookups.{edited_rises}
-use Rattle.r4_patch.specs.Effect.{Placed, in_leaf}
-use Rattle.r4_patch.proofs.Members.{none}
-use Rattle.r4_path.specs.Levels.{units_of_cells}
-use Rattle.r4_path.specs.TwigPieces.{twig_pieces}
-use Rattle.r4_reach.specs.Needs.{leaf_edits}
-use Rattle.r4_reach.specs.Touched.{Body}
-use Rattle.r4_twig_work.specs.Regrafting.{SetsBelow}
-use Rattle.r4_work.proofs.LeafEffect.{from_units, to_units, units_append}
-use Rattle.r4_work.proofs.UnitMembers.{filtered, to_filtered}
+use Rattle.r4_extent_build.proofs.r4_extent_demands.PutsInto.{any_there, there_any}
+use Rattle.r4_build.specs.r4_leaf.Units.{LeafUnit}
+use Rattle.r4_build.proofs.r4_leaf_edits.Lookups.{edited_rises}
+use Rattle.r4_build.specs.r4_patch.Effect.{Placed, in_leaf}
+use Rattle.r4_build.proofs.r4_patch.Members.{none}
+use Rattle.r4_build.specs.r4_path.Levels.{units_of_cells}
+use Rattle.r4_build.specs.r4_path.TwigPieces.{twig_pieces}
+use Rattle.r4_build.specs.r4_reach.Needs.{leaf_edits}
+use Rattle.r4_build.specs.r4_reach.Touched.{Body}
+use Rattle.r4_extent_build.specs.r4_twig_work.Regrafting.{SetsBelow}
+use Rattle.r4_build.proofs.r4_work.LeafEffect.{from_units, to_units, units_append}
+use Rattle.r4_build.proofs.r4_work.UnitMembers.{filtered, to_filtered}
 use Rattle.r4_extent_among.specs.Among.{AreLeavesFor, AreLeavesIn, AreNewLeaves, IsAmong, among_turn, is_put_among, numbered, values_among, with_leaves}
 use Rattle.r4_extent_among.proofs.Chain.{behind_of, chain_cell, value_in}
 use Rattle.r4_extent_among.proofs.Values.{from_spans, into, to_spans}

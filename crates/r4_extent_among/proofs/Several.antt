@@ -9,18 +9,18 @@ use Rattle.r4_base.specs.Value.{Value}
 use Rattle.r4_build.specs.Building.{set_by}
 use Rattle.r4_build.specs.Making.{IsOf}
 use Rattle.r4_build.proofs.Changing.{changes_both, changes_none}
-use Rattle.r4_cell.specs.Seen.{CellSeen}
-use Rattle.r4_cell.specs.declared.change.Fresh.{Fresh}
+use Rattle.r4_extent_build.specs.r4_cell.Seen.{CellSeen}
+use Rattle.r4_extent_build.specs.r4_cell.declared.change.Fresh.{Fresh}
 use Rattle.r4_content.specs.Edited.{Edits}
 use Rattle.r4_extent_build.specs.Looping.{AreTurned}
 use Rattle.r4_extent_build.specs.r4_twig_turns.Turning.{behind}
-use Rattle.r4_measure.specs.Budget.{Budget}
-use Rattle.r4_patch.proofs.Members.{Distinct, distinct, distinct_append, have_names, here, later, none}
-use Rattle.r4_reach.specs.Needs.{leaf_edits}
-use Rattle.r4_reach.specs.Touched.{Body}
-use Rattle.r4_work.specs.Remaking.{Changes}
-use Rattle.r4_work.specs.Working.{standing}
-use Rattle.r4_work.specs.declared.working.WorkingSet.{WorkingSet}
+use Rattle.r4_build.specs.r4_measure.Budget.{Budget}
+use Rattle.r4_build.proofs.r4_patch.Members.{Distinct, distinct, distinct_append, have_names, here, later, none}
+use Rattle.r4_build.specs.r4_reach.Needs.{leaf_edits}
+use Rattle.r4_build.specs.r4_reach.Touched.{Body}
+use Rattle.r4_build.specs.r4_work.Remaking.{Changes}
+use Rattle.r4_build.specs.r4_work.Working.{standing}
+use Rattle.r4_build.specs.r4_work.declared.working.WorkingSet.{WorkingSet}
 use Rattle.r4_extent_among.specs.Among.{AreNewLeaves, among_turn, is_put_among, numbered}
 use Rattle.r4_extent_among.specs.AmongEach.{CanPutEach, HasPutEach, LeavesAll, MayPutEach, is_put_in_each}
 use Rattle.r4_extent_among.specs.AmongIn.{HasPutAmong, MayPutAmong, numbers_among, turns_among}

@@ -6,16 +6,16 @@ use Rattle.r4_base.specs.Cell.{cell_fault, is_extent, item_end, next_key, spans_
 use Rattle.r4_base.specs.Key.{rank}
 use Rattle.r4_base.specs.Node.{Item, items_of}
 use Rattle.r4_base.specs.Tree.{Span}
-use Rattle.r4_branch.specs.Items.{IsSoundItem, Lie}
-use Rattle.r4_branch.specs.Pieces.{Follow, MayStand, item_pieces, next_of, piece_end, pieces_in}
-use Rattle.r4_branch.specs.declared.piece.TwigPiece.{TwigPiece}
-use Rattle.r4_branch.proofs.ItemPieces.{follow_item, next_of_item, next_of_items}
-use Rattle.r4_branch.proofs.Standing.{stand_lie}
-use Rattle.r4_cell.specs.Seen.{CellSeen, node_of}
-use Rattle.r4_graft.proofs.Placed.{first_member, first_or_later, follow_end, has_end, not_in_none}
-use Rattle.r4_path.specs.Sharing.{IsSound}
-use Rattle.r4_path.specs.TwigPieces.{twig_pieces}
-use Rattle.r4_path.proofs.CellNodes.{spans_are}
+use Rattle.r4_build.specs.r4_branch.Items.{IsSoundItem, Lie}
+use Rattle.r4_build.specs.r4_branch.Pieces.{Follow, MayStand, item_pieces, next_of, piece_end, pieces_in}
+use Rattle.r4_build.specs.r4_branch.declared.piece.TwigPiece.{TwigPiece}
+use Rattle.r4_build.proofs.r4_branch.ItemPieces.{follow_item, next_of_item, next_of_items}
+use Rattle.r4_build.proofs.r4_branch.Standing.{stand_lie}
+use Rattle.r4_extent_build.specs.r4_cell.Seen.{CellSeen, node_of}
+use Rattle.r4_extent_build.proofs.r4_graft.Placed.{first_member, first_or_later, follow_end, has_end, not_in_none}
+use Rattle.r4_build.specs.r4_path.Sharing.{IsSound}
+use Rattle.r4_build.specs.r4_path.TwigPieces.{twig_pieces}
+use Rattle.r4_build.proofs.r4_path.CellNodes.{spans_are}
 
 -- each begins where the one before it ends, or behind, and has a key
 abbrev pub SpansRise : (from : ℕ) → List Span → Type 0

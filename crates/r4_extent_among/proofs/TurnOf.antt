@@ -7,21 +7,21 @@ use Rattle.std.proofs.lemmas.List.Sums.{sum_by-cons}
 use Rattle.r4_base.specs.Key.{rank}
 use Rattle.r4_base.specs.Node.{mkfs_id_of}
 use Rattle.r4_base.specs.Tree.{Span}
-use Rattle.r4_branch.specs.Pieces.{AreTwigPieces, names_of, twig_bytes}
-use Rattle.r4_cell.specs.Seen.{CellSeen, node_of}
+use Rattle.r4_build.specs.r4_branch.Pieces.{AreTwigPieces, names_of, twig_bytes}
+use Rattle.r4_extent_build.specs.r4_cell.Seen.{CellSeen, node_of}
 use Rattle.r4_content.specs.Edited.{Edits}
 use Rattle.r4_extent_build.specs.r4_twig_turns.Turning.{IsTurnOf}
-use Rattle.r4_extent_demands.specs.Putting.{leaves_in, put_into}
-use Rattle.r4_extent_edit.proofs.SpanBorders.{sound_pieces}
-use Rattle.r4_leaf.specs.Units.{LeafUnit}
-use Rattle.r4_patch.specs.Joining.{ids_of}
-use Rattle.r4_patch.proofs.Members.{have_names, none}
-use Rattle.r4_path.specs.Steps.{CountUp}
-use Rattle.r4_path.specs.TwigPieces.{ArePiecesOf, twig_pieces}
-use Rattle.r4_path.proofs.Rising.{count_within, hi_is, id_member, lo_is}
-use Rattle.r4_path.proofs.Upwards.{long_ids}
-use Rattle.r4_reach.specs.Needs.{leaves_for, put_among}
-use Rattle.r4_reach.specs.Touched.{Body}
+use Rattle.r4_extent_build.specs.r4_extent_demands.Putting.{leaves_in, put_into}
+use Rattle.r4_extent_build.proofs.r4_extent_edit.SpanBorders.{sound_pieces}
+use Rattle.r4_build.specs.r4_leaf.Units.{LeafUnit}
+use Rattle.r4_build.specs.r4_patch.Joining.{ids_of}
+use Rattle.r4_build.proofs.r4_patch.Members.{have_names, none}
+use Rattle.r4_build.specs.r4_path.Steps.{CountUp}
+use Rattle.r4_build.specs.r4_path.TwigPieces.{ArePiecesOf, twig_pieces}
+use Rattle.r4_build.proofs.r4_path.Rising.{count_within, hi_is, id_member, lo_is}
+use Rattle.r4_build.proofs.r4_path.Upwards.{long_ids}
+use Rattle.r4_build.specs.r4_reach.Needs.{leaves_for, put_among}
+use Rattle.r4_build.specs.r4_reach.Touched.{Body}
 use Rattle.r4_extent_among.specs.Among.{AreLeavesFor, AreLeavesIn, AreNewLeaves, IsAmong, among_need, among_turn, numbered, with_leaves}
 use Rattle.r4_extent_among.proofs.Alike.{same_bytes}
 use Rattle.r4_extent_among.proofs.Chain.{IsChain, chain_cell, chain_of}

@@ -5,10 +5,10 @@ use Rattle.std.specs.List.{flat_map}
 use Rattle.std.proofs.lemmas.List.Elements.{Contains-append_cases, Contains-append_left, Contains-append_right}
 use Rattle.r4_base.specs.Tree.{Span}
 use Rattle.r4_content.specs.Edited.{Edits}
-use Rattle.r4_extent_demands.specs.Putting.{put_into}
-use Rattle.r4_leaf.specs.Units.{LeafUnit}
-use Rattle.r4_patch.proofs.Members.{cases, here, later, none}
-use Rattle.r4_reach.specs.Touched.{Body}
+use Rattle.r4_extent_build.specs.r4_extent_demands.Putting.{put_into}
+use Rattle.r4_build.specs.r4_leaf.Units.{LeafUnit}
+use Rattle.r4_build.proofs.r4_patch.Members.{cases, here, later, none}
+use Rattle.r4_build.specs.r4_reach.Touched.{Body}
 
 module _ (b : Option Body) (e : Edits) where
   abbrev pub into : Span → List LeafUnit

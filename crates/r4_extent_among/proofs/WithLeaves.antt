@@ -9,23 +9,23 @@ use Rattle.std.proofs.lemmas.List.Elements.{Contains-append_cases, Contains-appe
 use Rattle.r4_base.specs.Cell.{names_block}
 use Rattle.r4_base.specs.Key.{offset_of, rank, top}
 use Rattle.r4_base.specs.Tree.{IsNode, Name}
-use Rattle.r4_branch.specs.Pieces.{AreTwigPieces, Follow, bytes_behind, is_at, last_end, names_of, next_of, open_end, part_bytes, part_end, piece_end, twig_bytes, units_of}
-use Rattle.r4_branch.specs.declared.piece.TwigPart.{TwigPart}
-use Rattle.r4_branch.specs.declared.piece.TwigPart.TheVariants.{Blocks, Pointer}
-use Rattle.r4_branch.specs.declared.piece.TwigPiece.{TwigPiece}
-use Rattle.r4_branch.proofs.ItemPieces.{units_append}
-use Rattle.r4_cell.specs.Seen.{CellSeen, node_of}
-use Rattle.r4_edit.proofs.Gaps.{same_first}
-use Rattle.r4_graft.specs.Places.{AreClear, HasGap}
-use Rattle.r4_graft.specs.Splices.{place, spliced}
-use Rattle.r4_graft.proofs.FoundPlaces.{find_gap}
-use Rattle.r4_graft.proofs.Joined.{bytes_join, follow_join}
-use Rattle.r4_graft.proofs.Placed.{first_or_later, follow_above, follow_end, has_end, not_in_none}
-use Rattle.r4_graft.proofs.SplicedNames.{spliced_names}
-use Rattle.r4_patch.proofs.Members.{cases, here, later, none}
-use Rattle.r4_path.specs.Steps.{IsNameOf, name_of}
-use Rattle.r4_path.specs.TwigPieces.{ArePiecesOf, twig_pieces}
-use Rattle.r4_path.proofs.Rising.{hi_is}
+use Rattle.r4_build.specs.r4_branch.Pieces.{AreTwigPieces, Follow, bytes_behind, is_at, last_end, names_of, next_of, open_end, part_bytes, part_end, piece_end, twig_bytes, units_of}
+use Rattle.r4_build.specs.r4_branch.declared.piece.TwigPart.{TwigPart}
+use Rattle.r4_build.specs.r4_branch.declared.piece.TwigPart.TheVariants.{Blocks, Pointer}
+use Rattle.r4_build.specs.r4_branch.declared.piece.TwigPiece.{TwigPiece}
+use Rattle.r4_build.proofs.r4_branch.ItemPieces.{units_append}
+use Rattle.r4_extent_build.specs.r4_cell.Seen.{CellSeen, node_of}
+use Rattle.r4_build.proofs.r4_edit.Gaps.{same_first}
+use Rattle.r4_extent_build.specs.r4_graft.Places.{AreClear, HasGap}
+use Rattle.r4_extent_build.specs.r4_graft.Splices.{place, spliced}
+use Rattle.r4_extent_build.proofs.r4_graft.FoundPlaces.{find_gap}
+use Rattle.r4_extent_build.proofs.r4_graft.Joined.{bytes_join, follow_join}
+use Rattle.r4_extent_build.proofs.r4_graft.Placed.{first_or_later, follow_above, follow_end, has_end, not_in_none}
+use Rattle.r4_extent_build.proofs.r4_graft.SplicedNames.{spliced_names}
+use Rattle.r4_build.proofs.r4_patch.Members.{cases, here, later, none}
+use Rattle.r4_build.specs.r4_path.Steps.{IsNameOf, name_of}
+use Rattle.r4_build.specs.r4_path.TwigPieces.{ArePiecesOf, twig_pieces}
+use Rattle.r4_build.proofs.r4_path.Rising.{hi_is}
 use Rattle.r4_extent_among.specs.Among.{pointer_of, with_leaves}
 use Rattle.r4_extent_among.proofs.Alike.{open_by, open_is}
 use Rattle.r4_extent_among.proofs.Chain.{EndsWell, IsChain, IsLink}

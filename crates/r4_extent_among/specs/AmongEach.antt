@@ -6,18 +6,18 @@ use Rattle.std.specs.List.{list_any}
 use Rattle.r4_base.specs.Tree.{Root, Store}
 use Rattle.r4_base.specs.Value.{Value}
 use Rattle.r4_build.specs.Making.{StaysOf}
-use Rattle.r4_cell.specs.Patch.{HaveNames}
-use Rattle.r4_cell.specs.Seen.{CellSeen}
-use Rattle.r4_cell.specs.declared.change.Fresh.{Fresh}
+use Rattle.r4_extent_build.specs.r4_cell.Patch.{HaveNames}
+use Rattle.r4_extent_build.specs.r4_cell.Seen.{CellSeen}
+use Rattle.r4_extent_build.specs.r4_cell.declared.change.Fresh.{Fresh}
 use Rattle.r4_content.specs.Edited.{Edits}
 use Rattle.r4_extent_build.specs.Looping.{AreTurned}
 use Rattle.r4_extent_build.specs.r4_twig_turns.Turning.{behind}
-use Rattle.r4_measure.specs.Budget.{AreUnplaced, Budget, most_from}
-use Rattle.r4_measure.specs.Grafting.{IsQuietBelow}
-use Rattle.r4_measure.specs.Measured.{IsMeasured}
-use Rattle.r4_reach.specs.Touched.{Body}
-use Rattle.r4_work.specs.Working.{root_of, standing}
-use Rattle.r4_work.specs.declared.working.WorkingSet.{WorkingSet}
+use Rattle.r4_build.specs.r4_measure.Budget.{AreUnplaced, Budget, most_from}
+use Rattle.r4_build.specs.r4_measure.Grafting.{IsQuietBelow}
+use Rattle.r4_build.specs.r4_measure.Measured.{IsMeasured}
+use Rattle.r4_build.specs.r4_reach.Touched.{Body}
+use Rattle.r4_build.specs.r4_work.Working.{root_of, standing}
+use Rattle.r4_build.specs.r4_work.declared.working.WorkingSet.{WorkingSet}
 use Rattle.r4_extent_among.specs.Among.{AreNewLeaves, among_need, among_turn, is_put_among}
 use Rattle.r4_extent_among.specs.Among.{more_twigs}
 use Rattle.r4_extent_among.specs.AmongIn.{CanPutAmong, HasPutAmong, IsAmongIn, numbers_among}

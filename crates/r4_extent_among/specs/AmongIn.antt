@@ -2,20 +2,20 @@
 use Rattle.std.specs.Prelude.{◌≡◌, ℕ, ◌+◌, ◌^◌, ◌≤◌, List, [], ◌∷◌, Contains, Option}
 use Rattle.r4_base.specs.Tree.{Root, Store}
 use Rattle.r4_base.specs.Value.{Value}
-use Rattle.r4_cell.specs.Seen.{CellSeen, node_of}
-use Rattle.r4_cell.specs.declared.change.Fresh.{Fresh}
+use Rattle.r4_extent_build.specs.r4_cell.Seen.{CellSeen, node_of}
+use Rattle.r4_extent_build.specs.r4_cell.declared.change.Fresh.{Fresh}
 use Rattle.r4_content.specs.Edited.{Edits}
 use Rattle.r4_extent_build.specs.Looping.{AreTurned}
 use Rattle.r4_extent_build.specs.r4_twig_turns.Turning.{CanRegraftAll, TwigTurn, behind}
-use Rattle.r4_leaf.specs.Units.{LeafUnit}
-use Rattle.r4_measure.specs.Budget.{AreUnplaced, Budget}
-use Rattle.r4_measure.specs.Grafting.{IsQuietBelow}
-use Rattle.r4_measure.specs.Measured.{IsMeasured}
-use Rattle.r4_path.specs.Sharing.{IsSound}
-use Rattle.r4_reach.specs.Needs.{put_among}
-use Rattle.r4_reach.specs.Touched.{Body}
-use Rattle.r4_work.specs.Working.{standing}
-use Rattle.r4_work.specs.declared.working.WorkingSet.{WorkingSet}
+use Rattle.r4_build.specs.r4_leaf.Units.{LeafUnit}
+use Rattle.r4_build.specs.r4_measure.Budget.{AreUnplaced, Budget}
+use Rattle.r4_build.specs.r4_measure.Grafting.{IsQuietBelow}
+use Rattle.r4_build.specs.r4_measure.Measured.{IsMeasured}
+use Rattle.r4_build.specs.r4_path.Sharing.{IsSound}
+use Rattle.r4_build.specs.r4_reach.Needs.{put_among}
+use Rattle.r4_build.specs.r4_reach.Touched.{Body}
+use Rattle.r4_build.specs.r4_work.Working.{standing}
+use Rattle.r4_build.specs.r4_work.declared.working.WorkingSet.{WorkingSet}
 use Rattle.r4_extent_among.specs.Among.{AreNewLeaves, IsAmong, IsFree, among_need, among_turn}
 use Rattle.r4_extent_among.specs.Among.{more_twigs, numbered, values_among}
 

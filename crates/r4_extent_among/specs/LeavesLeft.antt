@@ -4,15 +4,15 @@ use Rattle.std.specs.Prelude.{◌≡◌, ◌≢◌, ◌+◌, ◌<◌, ◌≤◌,
 use Rattle.r4_base.specs.Tree.{Root, Store}
 use Rattle.r4_base.specs.Value.{Value}
 use Rattle.r4_build.specs.Making.{StaysOf}
-use Rattle.r4_cell.specs.Patch.{HaveNames}
-use Rattle.r4_cell.specs.Seen.{CellSeen}
-use Rattle.r4_cell.specs.declared.change.Fresh.{Fresh}
+use Rattle.r4_extent_build.specs.r4_cell.Patch.{HaveNames}
+use Rattle.r4_extent_build.specs.r4_cell.Seen.{CellSeen}
+use Rattle.r4_extent_build.specs.r4_cell.declared.change.Fresh.{Fresh}
 use Rattle.r4_extent_build.specs.r4_twig_turns.Turning.{behind}
-use Rattle.r4_measure.specs.Budget.{Budget, most_from}
-use Rattle.r4_measure.specs.Grafting.{IsQuietBelow}
-use Rattle.r4_measure.specs.Measured.{IsMeasured}
-use Rattle.r4_work.specs.Working.{root_of, standing}
-use Rattle.r4_work.specs.declared.working.WorkingSet.{WorkingSet}
+use Rattle.r4_build.specs.r4_measure.Budget.{Budget, most_from}
+use Rattle.r4_build.specs.r4_measure.Grafting.{IsQuietBelow}
+use Rattle.r4_build.specs.r4_measure.Measured.{IsMeasured}
+use Rattle.r4_build.specs.r4_work.Working.{root_of, standing}
+use Rattle.r4_build.specs.r4_work.declared.working.WorkingSet.{WorkingSet}
 use Rattle.r4_extent_among.specs.Among.{among_turn, numbered}
 
 -- The set after it is measured for the numbers that are left, and still nothing more comes below

@@ -2,14 +2,14 @@
 use Rattle.std.specs.Prelude.{◌≡◌, ℕ, ◌+◌, ◌<◌, ◌≤◌, List, [], ◌∷◌, Contains, length}
 use Rattle.r4_base.specs.Key.{least, rank, top}
 use Rattle.r4_base.specs.Node.{mkfs_id_of}
-use Rattle.r4_cell.specs.Seen.{CellSeen, node_of}
-use Rattle.r4_leaf.specs.Units.{LeafUnit, leaf_bytes}
-use Rattle.r4_leaf.specs.declared.remaking.KeyRange.{KeyRange}
-use Rattle.r4_patch.specs.Joining.{ids_of}
-use Rattle.r4_path.specs.Levels.{units_of_cells}
-use Rattle.r4_path.specs.Sharing.{IsSound}
-use Rattle.r4_path.specs.Steps.{CountUp, Follow}
-use Rattle.r4_reach.specs.Needs.{over}
+use Rattle.r4_extent_build.specs.r4_cell.Seen.{CellSeen, node_of}
+use Rattle.r4_build.specs.r4_leaf.Units.{LeafUnit, leaf_bytes}
+use Rattle.r4_build.specs.r4_leaf.declared.remaking.KeyRange.{KeyRange}
+use Rattle.r4_build.specs.r4_patch.Joining.{ids_of}
+use Rattle.r4_build.specs.r4_path.Levels.{units_of_cells}
+use Rattle.r4_build.specs.r4_path.Sharing.{IsSound}
+use Rattle.r4_build.specs.r4_path.Steps.{CountUp, Follow}
+use Rattle.r4_build.specs.r4_reach.Needs.{over}
 
 -- a range that a leaf may have
 pub record IsLeafRange (r : KeyRange) : Type 0 where

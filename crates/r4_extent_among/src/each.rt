@@ -6,16 +6,14 @@ ghost use Rattle.std.specs.Option.{option_copied};
 ghost use Rattle.r4_base.specs.Tree.{Root as TreeRoot, Store};
 ghost use Rattle.r4_base.specs.Value.{Value};
 ghost use Rattle.r4_content.specs.Held.{edits_of};
-ghost use Rattle.r4_extent_demands.specs.Sizes.{AreExtentEdits};
+ghost use Rattle.r4_extent_build.specs.r4_extent_demands.Sizes.{AreExtentEdits};
 ghost use Rattle.r4_extent_among.specs.AmongEach.{CanPutEach, HasPutEach};
 
 use crate::putting::put_among;
 use r4_base::Memory;
-use r4_cell::{Cell, Fresh};
+use r4_build::{Cell, Fresh, add};
 use r4_content::Edits;
-use r4_extent_demands::SizedBody;
-use r4_path::add;
-use r4_work::WorkingSet;
+use r4_extent_build::{SizedBody, WorkingSet};
 use std::alloc::Global;
 use std::sync::Arc;
 

@@ -2,15 +2,13 @@
 
 ghost use Rattle.std.specs.Prelude.{◌≡◌, ◌<◌, ◌≤◌, IfOk, OnOk, length, map};
 ghost use Rattle.r4_base.specs.Node.{items_of};
-ghost use Rattle.r4_cell.specs.Seen.{node_of};
-ghost use Rattle.r4_extent_demands.specs.Putting.{AddsSpans};
-ghost use Rattle.r4_leaf_demands.specs.Touching.{IsToldAt, span_of, spans_told};
-ghost use Rattle.r4_node40.specs.View.{view_items};
+ghost use Rattle.r4_extent_build.specs.r4_cell.Seen.{node_of};
+ghost use Rattle.r4_extent_build.specs.r4_extent_demands.Putting.{AddsSpans};
+ghost use Rattle.r4_extent_build.specs.r4_leaf_demands.Touching.{IsToldAt, span_of, spans_told};
+ghost use Rattle.r4_extent_build.specs.r4_node40.View.{view_items};
 
 use r4_base::{EXTENT, Memory};
-use r4_cell::Cell;
-use r4_leaf::KeyRange;
-use r4_node40::NodeView;
+use r4_build::{Cell, KeyRange, NodeView};
 use std::alloc::Global;
 
 /// The ranges of a twig's extents, in their order.

@@ -6,28 +6,26 @@ ghost use Rattle.std.specs.Arc.{arc_value};
 ghost use Rattle.std.specs.Option.{option_copied};
 ghost use Rattle.r4_base.specs.Key.{rank};
 ghost use Rattle.r4_base.specs.Node.{mkfs_id_of};
-ghost use Rattle.r4_cell.specs.Seen.{node_of};
+ghost use Rattle.r4_extent_build.specs.r4_cell.Seen.{node_of};
 ghost use Rattle.r4_content.specs.Held.{edits_of};
-ghost use Rattle.r4_edit.specs.LeafParts.{IsEmptyLeaf};
-ghost use Rattle.r4_extent_demands.specs.Putting.{leaves_in, put_into};
-ghost use Rattle.r4_extent_demands.specs.Sizes.{AreExtentEdits};
-ghost use Rattle.r4_leaf.specs.Leaves.{AreFew, HaveMkfsId, Packs};
-ghost use Rattle.r4_leaf.specs.declared.remaking.KeyRange.{KeyRange as RangeSeen};
-ghost use Rattle.r4_leaf_demands.specs.Touching.{span_of};
-ghost use Rattle.r4_path.specs.Nodes.{IsNodeOf};
-ghost use Rattle.r4_reach.specs.Needs.{leaves_for};
+ghost use Rattle.r4_extent_build.specs.r4_edit.LeafParts.{IsEmptyLeaf};
+ghost use Rattle.r4_extent_build.specs.r4_extent_demands.Putting.{leaves_in, put_into};
+ghost use Rattle.r4_extent_build.specs.r4_extent_demands.Sizes.{AreExtentEdits};
+ghost use Rattle.r4_build.specs.r4_leaf.Leaves.{AreFew, HaveMkfsId, Packs};
+ghost use Rattle.r4_build.specs.r4_leaf.declared.remaking.KeyRange.{KeyRange as RangeSeen};
+ghost use Rattle.r4_extent_build.specs.r4_leaf_demands.Touching.{span_of};
+ghost use Rattle.r4_build.specs.r4_path.Nodes.{IsNodeOf};
+ghost use Rattle.r4_build.specs.r4_reach.Needs.{leaves_for};
 ghost use Rattle.r4_extent_among.specs.Among.{AreLeavesFor, AreLeavesIn, numbered};
 ghost use Rattle.r4_extent_among.specs.Making.{ArePackedFrom, IsLeafRange};
 
 use r4_base::{Block, LEAF, Memory, NodeId};
-use r4_cell::{Cell, Cells, Fresh, new_cell};
+use r4_build::{
+    Cell, Cells, Fresh, KeyRange, Leaf, Level, add, edits_of_leaf, leaf_level, new_cell, remake,
+    right_part, take_number,
+};
 use r4_content::Edits;
-use r4_edit::right_part;
-use r4_extent_demands::{SizedBody, keys_of};
-use r4_leaf::{KeyRange, Leaf, remake};
-use r4_leaf_edits::edits_of_leaf;
-use r4_node40::NodeMut;
-use r4_path::{Level, add, leaf_level, take_number};
+use r4_extent_build::{NodeMut, SizedBody, keys_of};
 use std::alloc::Global;
 use std::sync::Arc;
 

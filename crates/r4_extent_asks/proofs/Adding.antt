@@ -14,8 +14,8 @@ use Rattle.r4_content.specs.Objects.{byte_pairs}
 use Rattle.r4_content.specs.declared.edits.Edits.{Edits as HeldEdits}
 use Rattle.r4_content.specs.declared.edits.Interval.{Interval}
 use Rattle.r4_content.proofs.EditLaws.{in_append}
-use Rattle.r4_leaf_edits.specs.Suiting.{IsBefore}
-use Rattle.r4_leaf_edits.proofs.Puts.{put_keys_append}
+use Rattle.r4_twig_asks.specs.r4_leaf_edits.Suiting.{IsBefore}
+use Rattle.r4_twig_asks.proofs.r4_leaf_edits.Puts.{put_keys_append}
 use Rattle.r4_twig_asks.specs.r4_reach.Reach.{is_body}
 use Rattle.r4_twig_asks.specs.r4_reach.Touched.{Body, first_byte, is_spread, whole_blocks, with_blocks}
 use Rattle.r4_extent_asks.specs.Widening.{AddsChanges, widened}

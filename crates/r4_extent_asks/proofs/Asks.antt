@@ -6,10 +6,10 @@ use Rattle.std.specs.List.{list_any}
 use Rattle.std.proofs.lemmas.Bool.{eq-eqb, ne_eqb}
 use Rattle.r4_base.specs.Key.{rank}
 use Rattle.r4_base.specs.Tree.{Name, Span}
-use Rattle.r4_cell.specs.Seen.{CellSeen, node_of}
+use Rattle.r4_units.specs.r4_cell.Seen.{CellSeen, node_of}
 use Rattle.r4_content.specs.Edited.{Edits, Intervals}
 use Rattle.r4_twig_asks.proofs.r4_marking.Asked.{node_level}
-use Rattle.r4_path.proofs.Rising.{hi_is, lo_is}
+use Rattle.r4_twig_asks.proofs.r4_path.Rising.{hi_is, lo_is}
 use Rattle.r4_twig_asks.specs.r4_reach.Needs.{Ask, cell_asks, changes_pieces, is_met, is_touched, leaf_asks, node_asks, twig_asks, twig_turns}
 use Rattle.r4_twig_asks.specs.r4_reach.Touched.{Body}
 

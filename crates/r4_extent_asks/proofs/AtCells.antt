@@ -4,13 +4,13 @@ use Rattle.std.proofs.Common.{arith, inl, inr, sym, subst, ◌∙◌}
 use Rattle.std.proofs.lemmas.Bool.{both_ways}
 use Rattle.r4_base.specs.Key.{rank}
 use Rattle.r4_base.specs.Tree.{Span}
-use Rattle.r4_cell.specs.Seen.{CellSeen, node_of}
+use Rattle.r4_units.specs.r4_cell.Seen.{CellSeen, node_of}
 use Rattle.r4_content.specs.Edited.{Edits, Intervals}
-use Rattle.r4_leaf_demands.specs.Touching.{MeetsKind}
+use Rattle.r4_twig_asks.specs.r4_leaf_demands.Touching.{MeetsKind}
 use Rattle.r4_twig_asks.proofs.r4_extent_demands.Meets.{HasOf, keys_meet, met_keys}
 use Rattle.r4_twig_asks.proofs.r4_marking.Asked.{node_level}
-use Rattle.r4_patch.proofs.Members.{none}
-use Rattle.r4_path.proofs.Rising.{hi_is, lo_is}
+use Rattle.r4_twig_asks.proofs.r4_patch.Members.{none}
+use Rattle.r4_twig_asks.proofs.r4_path.Rising.{hi_is, lo_is}
 use Rattle.r4_twig_asks.specs.r4_reach.Demand.{Spans}
 use Rattle.r4_twig_asks.specs.r4_reach.Needs.{demand_of, is_met}
 use Rattle.r4_twig_asks.specs.r4_reach.Reach.{IsReadAt, IsWrittenAt}

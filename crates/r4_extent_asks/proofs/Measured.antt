@@ -9,24 +9,24 @@ use Rattle.r4_base.specs.Cell.{cell_fault, units_in}
 use Rattle.r4_base.specs.Key.{rank}
 use Rattle.r4_base.specs.Node.{Item, items_of}
 use Rattle.r4_base.specs.declared.key.Key.{Key}
-use Rattle.r4_cell.specs.Seen.{CellSeen, node_of}
+use Rattle.r4_units.specs.r4_cell.Seen.{CellSeen, node_of}
 use Rattle.r4_content.specs.Edited.{Edits, is_between}
 use Rattle.r4_content.specs.Listed.{list_edited}
-use Rattle.r4_leaf.specs.Items.{Lie}
-use Rattle.r4_leaf.specs.Leaves.{MayStand}
-use Rattle.r4_leaf.specs.Remade.{CanPutAll, cut_all, put_all, units_after as units_left}
-use Rattle.r4_leaf.specs.Units.{LeafUnit, leaf_bytes}
-use Rattle.r4_leaf.specs.declared.remaking.Given.{Given}
-use Rattle.r4_leaf.specs.declared.remaking.KeyRange.{KeyRange}
-use Rattle.r4_leaf.proofs.LeafItems.{lie_rise}
-use Rattle.r4_leaf.proofs.Rising.{Rise}
-use Rattle.r4_leaf.proofs.Standing.{stand_lie}
-use Rattle.r4_leaf_edits.specs.Made.{AreOfLeaf, MakesEdits}
-use Rattle.r4_path.proofs.CellNodes.{units_are}
-use Rattle.r4_path.proofs.Rising.{hi_is, lo_is}
+use Rattle.r4_twig_asks.specs.r4_leaf.Items.{Lie}
+use Rattle.r4_twig_asks.specs.r4_leaf.Leaves.{MayStand}
+use Rattle.r4_twig_asks.specs.r4_leaf.Remade.{CanPutAll, cut_all, put_all, units_after as units_left}
+use Rattle.r4_twig_asks.specs.r4_leaf.Units.{LeafUnit, leaf_bytes}
+use Rattle.r4_twig_asks.specs.r4_leaf.declared.remaking.Given.{Given}
+use Rattle.r4_twig_asks.specs.r4_leaf.declared.remaking.KeyRange.{KeyRange}
+use Rattle.r4_twig_asks.proofs.r4_leaf.LeafItems.{lie_rise}
+use Rattle.r4_twig_asks.proofs.r4_leaf.Rising.{Rise}
+use Rattle.r4_twig_asks.proofs.r4_leaf.Standing.{stand_lie}
+use Rattle.r4_twig_asks.specs.r4_leaf_edits.Made.{AreOfLeaf, MakesEdits}
+use Rattle.r4_twig_asks.proofs.r4_path.CellNodes.{units_are}
+use Rattle.r4_twig_asks.proofs.r4_path.Rising.{hi_is, lo_is}
 use Rattle.r4_twig_asks.specs.r4_reach.Needs.{leaf_edits, units_after}
 use Rattle.r4_twig_asks.specs.r4_reach.Touched.{Body}
-use Rattle.r4_leaf_demands.proofs.r4_suited.Cells.{IsFitting, leaf_fits}
+use Rattle.r4_twig_asks.proofs.r4_leaf_demands.r4_suited.Cells.{IsFitting, leaf_fits}
 use Rattle.r4_twig_asks.specs.r4_extent_demands.Sizes.{AreExtentEdits}
 
 -- ---- units that rise lie in their range

@@ -11,16 +11,16 @@ use Rattle.r4_base.specs.Extents.{pointer_of, units_of}
 use Rattle.r4_base.specs.Key.{rank}
 use Rattle.r4_base.specs.Node.{Item, items_of}
 use Rattle.r4_base.specs.Tree.{Name}
-use Rattle.r4_cell.specs.Seen.{CellSeen, node_of}
+use Rattle.r4_units.specs.r4_cell.Seen.{CellSeen, node_of}
 use Rattle.r4_twig_asks.specs.r4_marking.Marks.{IsChildAt, NoChildAt, names_at}
-use Rattle.r4_cell.proofs.ItemRows.{extent_data}
+use Rattle.r4_units.proofs.r4_cell.ItemRows.{extent_data}
 use Rattle.r4_twig_asks.proofs.r4_marking.Children.{data_nameless, names_next}
-use Rattle.r4_patch.proofs.Members.{cases, here, later, none}
+use Rattle.r4_twig_asks.proofs.r4_patch.Members.{cases, here, later, none}
 use Rattle.r4_twig_asks.specs.r4_reach.Needs.{going_of, left_leaves}
 use Rattle.r4_twig_asks.specs.r4_reach.Touched.{Body}
-use Rattle.r4_search.proofs.Places.{item_in}
-use Rattle.r4_search.specs.Place.{child_name}
-use Rattle.r4_search.specs.declared.inside.Child.{Child}
+use Rattle.r4_units.proofs.r4_search.Places.{item_in}
+use Rattle.r4_units.specs.r4_search.Place.{child_name}
+use Rattle.r4_units.specs.r4_search.declared.inside.Child.{Child}
 use Rattle.r4_extent_asks.specs.Behind.{AddsLeft, leaves_left}
 
 named_at : (l lo hi : ℕ) (block : List ℕ) → 1 ≤ l → (cell_of l lo hi block).names ≡ names_in l hi (items_of block)

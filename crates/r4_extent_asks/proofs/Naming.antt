@@ -9,13 +9,13 @@ use Rattle.r4_base.specs.Extents.{pointer_of}
 use Rattle.r4_base.specs.Key.{rank}
 use Rattle.r4_base.specs.Node.{Item, PluginsFit, fits_level, items_of}
 use Rattle.r4_base.specs.Tree.{Name}
-use Rattle.r4_cell.specs.Seen.{CellSeen, node_of}
-use Rattle.r4_cell.proofs.NodesAt.{node_at, plugins_at}
-use Rattle.r4_leaf_demands.proofs.Weighed.{IsLittle, block_is}
+use Rattle.r4_units.specs.r4_cell.Seen.{CellSeen, node_of}
+use Rattle.r4_units.proofs.r4_cell.NodesAt.{node_at, plugins_at}
+use Rattle.r4_twig_asks.proofs.r4_leaf_demands.Weighed.{IsLittle, block_is}
 use Rattle.r4_twig_asks.specs.r4_marking.Marks.{most_for}
 use Rattle.r4_twig_asks.specs.r4_marking.declared.demands.Asking.{Asking}
-use Rattle.r4_path.specs.Nodes.{weight}
-use Rattle.r4_path.proofs.Rising.{hi_is, lo_is}
+use Rattle.r4_twig_asks.specs.r4_path.Nodes.{weight}
+use Rattle.r4_twig_asks.proofs.r4_path.Rising.{hi_is, lo_is}
 use Rattle.r4_twig_asks.specs.r4_reach.Needs.{Ask, all_gone, all_more, asking, come_of, meets, moves, node_asks, node_need, over}
 use Rattle.r4_twig_asks.specs.r4_reach.Touched.{Body}
 use Rattle.r4_units.proofs.Leaves.{body_of}

@@ -13,21 +13,21 @@ use Rattle.r4_base.specs.Cell.{cell_fault, units_in}
 use Rattle.r4_base.specs.Key.{rank}
 use Rattle.r4_base.specs.Node.{Item, items_of}
 use Rattle.r4_base.specs.Value.{Byte, Value}
-use Rattle.r4_cell.specs.Seen.{CellSeen, node_of}
+use Rattle.r4_units.specs.r4_cell.Seen.{CellSeen, node_of}
 use Rattle.r4_content.specs.Edited.{Edits, Pairs, is_between, is_in, put_keys}
 use Rattle.r4_content.specs.Listed.{list_edited}
 use Rattle.r4_content.specs.Seen.{Rises}
 use Rattle.r4_content.proofs.EditLaws.{last_put, one_key}
-use Rattle.r4_leaf.specs.Remade.{AreWithin, CanPutAll, cut_all, put_all, units_after as units_left}
-use Rattle.r4_leaf.specs.Units.{LeafUnit, bytes_behind, cut_units, leaf_bytes}
-use Rattle.r4_leaf.specs.declared.remaking.Given.{Given}
-use Rattle.r4_leaf.specs.declared.remaking.KeyRange.{KeyRange}
+use Rattle.r4_twig_asks.specs.r4_leaf.Remade.{AreWithin, CanPutAll, cut_all, put_all, units_after as units_left}
+use Rattle.r4_twig_asks.specs.r4_leaf.Units.{LeafUnit, bytes_behind, cut_units, leaf_bytes}
+use Rattle.r4_twig_asks.specs.r4_leaf.declared.remaking.Given.{Given}
+use Rattle.r4_twig_asks.specs.r4_leaf.declared.remaking.KeyRange.{KeyRange}
 use Rattle.r4_extent_asks.proofs.Measured.{of_leaf}
-use Rattle.r4_leaf_edits.specs.Made.{AreOfLeaf, MakesEdits}
-use Rattle.r4_leaf_edits.proofs.Lookups.{contains_in, found, in_is_found, kept_found, kept_rises}
-use Rattle.r4_leaf_edits.proofs.Lookups.{here as here_key}
-use Rattle.r4_path.proofs.CellNodes.{units_are}
-use Rattle.r4_path.proofs.Rising.{hi_is, lo_is}
+use Rattle.r4_twig_asks.specs.r4_leaf_edits.Made.{AreOfLeaf, MakesEdits}
+use Rattle.r4_twig_asks.proofs.r4_leaf_edits.Lookups.{contains_in, found, in_is_found, kept_found, kept_rises}
+use Rattle.r4_twig_asks.proofs.r4_leaf_edits.Lookups.{here as here_key}
+use Rattle.r4_twig_asks.proofs.r4_path.CellNodes.{units_are}
+use Rattle.r4_twig_asks.proofs.r4_path.Rising.{hi_is, lo_is}
 use Rattle.r4_twig_asks.specs.r4_reach.Needs.{asking, come_of, cut_in_two, is_gone, leaf_asks, leaf_edits, meets, over, units_after}
 use Rattle.r4_twig_asks.specs.r4_reach.Touched.{Body}
 use Rattle.r4_twig_asks.proofs.r4_extent_demands.Puts.{leaves_none, leaves_some}

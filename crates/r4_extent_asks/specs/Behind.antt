@@ -8,9 +8,9 @@ use Rattle.r4_base.specs.Node.{Item, items_of}
 use Rattle.r4_base.specs.Tree.{Name, Node}
 use Rattle.r4_base.specs.Value.{Value}
 use Rattle.r4_base.specs.declared.key.Key.{Key}
-use Rattle.r4_cell.specs.Seen.{CellSeen}
-use Rattle.r4_leaf.specs.Units.{LeafUnit}
-use Rattle.r4_leaf.specs.declared.remaking.KeyRange.{KeyRange}
+use Rattle.r4_units.specs.r4_cell.Seen.{CellSeen}
+use Rattle.r4_twig_asks.specs.r4_leaf.Units.{LeafUnit}
+use Rattle.r4_twig_asks.specs.r4_leaf.declared.remaking.KeyRange.{KeyRange}
 use Rattle.r4_twig_asks.specs.r4_marking.Marks.{names_at}
 use Rattle.r4_twig_asks.specs.r4_reach.Needs.{cut_in_two, meets}
 

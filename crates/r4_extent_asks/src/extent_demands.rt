@@ -2,7 +2,7 @@
 
 ghost use Rattle.std.specs.Prelude.{◌≡◌, ◌≤◌, ◌==◌, ◌||◌, length, map, not};
 ghost use Rattle.std.specs.Option.{option_copied};
-ghost use Rattle.r4_cell.specs.Seen.{node_of};
+ghost use Rattle.r4_units.specs.r4_cell.Seen.{node_of};
 ghost use Rattle.r4_content.specs.Held.{edits_of, interval_of};
 ghost use Rattle.r4_twig_asks.specs.r4_marking.Marks.{heard_seen};
 ghost use Rattle.r4_twig_asks.specs.r4_reach.Needs.{is_touched};
@@ -12,13 +12,12 @@ use crate::leaves::leaf_asks;
 use crate::left::left_leaves;
 use crate::nodes::node_asks;
 use r4_base::{LEAF, Memory, TWIG};
-use r4_cell::Cell;
 use r4_content::{Edits, Interval};
-use r4_leaf_demands::low_range;
-use r4_leaf_edits::meets_intervals;
 use r4_twig_asks::{
-    Asking, Demands, Heard, SizedBody, Way, changes_pieces, extents_have, twig_asks,
+    Asking, Demands, Heard, SizedBody, Way, changes_pieces, extents_have, low_range,
+    meets_intervals, twig_asks,
 };
+use r4_units::Cell;
 use std::alloc::Global;
 use std::marker::Model;
 

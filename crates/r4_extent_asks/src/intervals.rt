@@ -6,14 +6,14 @@ ghost use Rattle.r4_base.specs.Key.{rank, top};
 ghost use Rattle.r4_content.specs.Edited.{changed, is_in, put_keys};
 ghost use Rattle.r4_content.specs.Held.{edits_of, fill_pairs, interval_of, pair_of, run_pairs};
 ghost use Rattle.r4_content.specs.Objects.{byte_pairs};
-ghost use Rattle.r4_leaf_edits.specs.Suiting.{IsBefore, SuitLeaves};
+ghost use Rattle.r4_twig_asks.specs.r4_leaf_edits.Suiting.{IsBefore, SuitLeaves};
 ghost use Rattle.r4_twig_asks.specs.r4_reach.Touched.{Body};
 ghost use Rattle.r4_extent_asks.specs.Widening.{AddsChanges, widened};
 
 use crate::blocks::next_key;
 use r4_base::{Key, Memory, Value};
-use r4_cell::top;
 use r4_content::{ByteRun, Edits, FilledInterval, Interval};
+use r4_units::top;
 use std::alloc::Global;
 
 /// The keys that edits change: an interval for each fill and each run that has keys, and for each value and interval.

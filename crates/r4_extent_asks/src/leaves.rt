@@ -3,21 +3,20 @@
 ghost use Rattle.std.specs.Prelude.{◌≡◌, ◌+◌, ◌<◌, ◌≤◌, IfOk, IfSome, List, if◌then◌else◌};
 ghost use Rattle.std.specs.Option.{option_copied, option_map};
 ghost use Rattle.r4_base.specs.Key.{rank};
-ghost use Rattle.r4_cell.specs.Seen.{node_of};
+ghost use Rattle.r4_units.specs.r4_cell.Seen.{node_of};
 ghost use Rattle.r4_content.specs.Held.{edits_of};
-ghost use Rattle.r4_leaf.specs.Units.{LeafUnit, leaf_bytes};
+ghost use Rattle.r4_twig_asks.specs.r4_leaf.Units.{LeafUnit, leaf_bytes};
 ghost use Rattle.r4_twig_asks.specs.r4_marking.Marks.{ask_seen};
 ghost use Rattle.r4_twig_asks.specs.r4_reach.Needs.{come_of, is_gone, leaf_asks, over, units_after};
 ghost use Rattle.r4_twig_asks.specs.r4_extent_demands.Sizes.{AreExtentEdits, IsSized};
 ghost use Rattle.r4_extent_asks.specs.Behind.{IsComing, IsPartedIf, has_behind};
 
 use r4_base::{Key, Memory};
-use r4_cell::Cell;
 use r4_content::Edits;
-use r4_leaf::{KeyRange, bytes_after};
-use r4_leaf_demands::over;
-use r4_leaf_edits::{edits_of_leaf, part_of};
-use r4_twig_asks::{Asking, SizedBody, asking_for, keys_of};
+use r4_twig_asks::{
+    Asking, KeyRange, SizedBody, asking_for, bytes_after, edits_of_leaf, keys_of, over, part_of,
+};
+use r4_units::Cell;
 use std::alloc::Global;
 
 /// What a leaf asks for, by the bytes of its units after the edits. One into whose range blocks of the body come is cut

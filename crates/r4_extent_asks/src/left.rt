@@ -4,16 +4,15 @@ ghost use Rattle.std.specs.Prelude.{◌≡◌, ◌<◌, ◌≤◌, IfOk, OnOk, l
 ghost use Rattle.std.specs.Option.{option_copied};
 ghost use Rattle.r4_base.specs.Key.{rank};
 ghost use Rattle.r4_base.specs.Node.{items_of};
-ghost use Rattle.r4_cell.specs.Seen.{node_of};
-ghost use Rattle.r4_node40.specs.View.{view_items};
+ghost use Rattle.r4_units.specs.r4_cell.Seen.{node_of};
+ghost use Rattle.r4_units.specs.r4_node40.View.{view_items};
 ghost use Rattle.r4_twig_asks.specs.r4_reach.Needs.{going_of, left_leaves};
 ghost use Rattle.r4_twig_asks.specs.r4_extent_demands.Sizes.{IsSized};
 ghost use Rattle.r4_extent_asks.specs.Behind.{AddsLeft, IsFirstGone, leaves_left};
 
 use r4_base::{Key, LEAF, Memory};
-use r4_cell::Cell;
-use r4_node40::NodeView;
 use r4_twig_asks::{SizedBody, child_at};
+use r4_units::{Cell, NodeView};
 use std::alloc::Global;
 
 /// The numbers of the leaves that a twig names and whose range ends where blocks of the body go: they take these up.

@@ -13,5 +13,7 @@ pub use changes::changes_of;
 pub use extent_demands::ExtentDemands;
 pub use left::first_gone;
 pub use r4_twig_asks::{
-    Demands, Marks, SizedBody, Way, commands_of_extents_may_ask, extents_have, mark,
+    BodyChange, Demands, Marks, SizedBody, Way, body_changed, commands_of_extents_may_ask,
+    extents_have, mark,
 };
+pub use r4_units::{FetchFault, Keeping, Pool};

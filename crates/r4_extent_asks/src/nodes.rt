@@ -3,14 +3,16 @@
 ghost use Rattle.std.specs.Prelude.{◌≡◌, ◌+◌, ◌^◌, ◌<◌, ◌≤◌, ◌&&◌, ◌==◌, length, map, IfSome, if◌then◌else◌};
 ghost use Rattle.std.specs.Option.{option_copied, option_map};
 ghost use Rattle.r4_base.specs.Node.{items_of};
-ghost use Rattle.r4_cell.specs.Seen.{node_of};
+ghost use Rattle.r4_units.specs.r4_cell.Seen.{node_of};
 ghost use Rattle.r4_twig_asks.specs.r4_marking.Marks.{AreSmall, ask_seen, heard_seen, most_for};
 ghost use Rattle.r4_twig_asks.specs.r4_reach.Needs.{all_gone, node_asks};
 ghost use Rattle.r4_twig_asks.specs.r4_extent_demands.Sizes.{IsSized};
 
-use r4_cell::Cell;
-use r4_leaf_demands::{POINTER_ROOM, all_more, node_bytes, over};
-use r4_twig_asks::{Asking, Heard, SizedBody, asking_for, comes_into, moves};
+use r4_twig_asks::{
+    Asking, Heard, POINTER_ROOM, SizedBody, all_more, asking_for, comes_into, moves, node_bytes,
+    over,
+};
+use r4_units::Cell;
 
 /// What a node above the twigs asks for: it counts the pointers that come, and where blocks come into its range, those
 /// that go.

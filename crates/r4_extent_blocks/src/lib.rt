@@ -10,3 +10,4 @@ mod tests;
 
 pub use blocks::{new_block, overwritten};
 pub use finding::sets_bytes;
+pub use r4_cell::{Cell, Fresh, ItemView, NodeMut, Root, new_cell, pointer};

@@ -2,11 +2,11 @@
 use Rattle.std.proofs.Common.{◌≡◌, ℕ, Bool, true, false, refl, sym, ◌∙◌}
 use Rattle.std.specs.Prelude.{◌||◌, Option, if◌then◌else◌}
 use Rattle.r4_base.specs.Value.{Value}
-use Rattle.r4_cell.specs.Patch.{Patch}
-use Rattle.r4_patch.specs.Effect.{HasEffect, Placed, either, later}
-use Rattle.r4_patch.specs.Joining.{patch_of_change}
-use Rattle.r4_work.specs.Remaking.{Changes}
-use Rattle.r4_work.specs.declared.working.WorkingSet.{WorkingSet}
+use Rattle.r4_extent_demands.specs.r4_cell.Patch.{Patch}
+use Rattle.r4_twig_turns.specs.r4_patch.Effect.{HasEffect, Placed, either, later}
+use Rattle.r4_twig_turns.specs.r4_patch.Joining.{patch_of_change}
+use Rattle.r4_twig_turns.specs.r4_work.Remaking.{Changes}
+use Rattle.r4_twig_turns.specs.r4_work.declared.working.WorkingSet.{WorkingSet}
 
 same_effect : (p : Patch Value) (at now : ℕ → Bool) (to then_to : ℕ → Option (Placed Value)) → HasEffect p at to → ((k : ℕ) → now k ≡ at k) → ((k : ℕ) → to k ≡ then_to k) → HasEffect p now then_to
 same_effect p at now to then_to e same is = record {

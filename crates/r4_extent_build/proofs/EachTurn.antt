@@ -3,14 +3,14 @@ use Rattle.std.proofs.Common.{◌≡◌, ◌+◌, List, ◌∷◌, sym, subst, a
 use Rattle.std.proofs.lemmas.List.Sums.{sum_by-cons}
 use Rattle.r4_base.specs.Tree.{Root, Store}
 use Rattle.r4_base.specs.Value.{Value}
-use Rattle.r4_cell.specs.Seen.{CellSeen}
-use Rattle.r4_cell.specs.declared.change.Fresh.{Fresh}
+use Rattle.r4_extent_demands.specs.r4_cell.Seen.{CellSeen}
+use Rattle.r4_extent_demands.specs.r4_cell.declared.change.Fresh.{Fresh}
 use Rattle.r4_content.specs.Edited.{Edits}
-use Rattle.r4_patch.proofs.Members.{here, later}
-use Rattle.r4_reach.specs.Touched.{Body}
+use Rattle.r4_extent_demands.proofs.r4_patch.Members.{here, later}
+use Rattle.r4_extent_demands.specs.r4_reach.Touched.{Body}
 use Rattle.r4_twig_turns.specs.Turning.{IsTurned, TwigTurn, behind, own_of}
 use Rattle.r4_twig_turns.specs.r4_twig_work.Regrafting.{DoesBelow, IsRegraftable}
-use Rattle.r4_work.specs.declared.working.WorkingSet.{WorkingSet}
+use Rattle.r4_twig_turns.specs.r4_work.declared.working.WorkingSet.{WorkingSet}
 use Rattle.r4_extent_build.specs.Looping.{AreTurned, CanTurnAll, IsTwigFor, turns_of}
 use Rattle.r4_extent_build.specs.Turns.{growing_turn}
 

@@ -8,17 +8,17 @@ use Rattle.std.proofs.lemmas.List.Elements.{Contains-append_cases, Contains-appe
 use Rattle.r4_base.specs.Extents.{is_hole}
 use Rattle.r4_base.specs.Key.{offset_of, rank}
 use Rattle.r4_base.specs.Tree.{Name}
-use Rattle.r4_branch.specs.Pieces.{Follow, IsSound, IsSoundPart, names_of, next_of, part_end, part_names, piece_end}
-use Rattle.r4_branch.specs.declared.piece.TwigPart.{TwigPart}
-use Rattle.r4_branch.specs.declared.piece.TwigPart.TheVariants.{Blocks, Pointer}
-use Rattle.r4_branch.specs.declared.piece.TwigPiece.{TwigPiece}
+use Rattle.r4_extent_demands.specs.r4_branch.Pieces.{Follow, IsSound, IsSoundPart, names_of, next_of, part_end, part_names, piece_end}
+use Rattle.r4_extent_demands.specs.r4_branch.declared.piece.TwigPart.{TwigPart}
+use Rattle.r4_extent_demands.specs.r4_branch.declared.piece.TwigPart.TheVariants.{Blocks, Pointer}
+use Rattle.r4_extent_demands.specs.r4_branch.declared.piece.TwigPiece.{TwigPiece}
 use Rattle.r4_content.specs.Edited.{Edits}
-use Rattle.r4_graft.proofs.Joined.{follow_join, follow_lower, names_join, next_join}
-use Rattle.r4_graft.proofs.Placed.{follow_above, has_end}
-use Rattle.r4_leaf.specs.Units.{is_between}
-use Rattle.r4_patch.proofs.Members.{cases, here, later, none}
-use Rattle.r4_reach.specs.Needs.{filled, gets_bytes, runs}
-use Rattle.r4_reach.specs.Touched.{Body, first_byte}
+use Rattle.r4_extent_demands.proofs.r4_graft.Joined.{follow_join, follow_lower, names_join, next_join}
+use Rattle.r4_extent_demands.proofs.r4_graft.Placed.{follow_above, has_end}
+use Rattle.r4_extent_demands.specs.r4_leaf.Units.{is_between}
+use Rattle.r4_extent_demands.proofs.r4_patch.Members.{cases, here, later, none}
+use Rattle.r4_extent_demands.specs.r4_reach.Needs.{filled, gets_bytes, runs}
+use Rattle.r4_extent_demands.specs.r4_reach.Touched.{Body, first_byte}
 use Rattle.r4_extent_build.specs.Numbering.{coming_count, has_block_at, is_coming, is_told_block, names_coming, with_numbers}
 use Rattle.r4_extent_build.proofs.Numbers.{names_append, names_off, numbers_append, numbers_next, numbers_off}
 use Rattle.r4_extent_build.proofs.RunPieces.{AreFree, are_runs, not_coming}

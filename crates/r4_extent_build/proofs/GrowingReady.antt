@@ -5,23 +5,23 @@ use Rattle.r4_base.specs.Key.{rank}
 use Rattle.r4_base.specs.Tree.{Root, Store}
 use Rattle.r4_base.specs.Value.{Value}
 use Rattle.r4_base.specs.declared.key.Key.{Key}
-use Rattle.r4_branch.specs.Pieces.{AreTwigPieces, Follow, piece_end, twig_bytes}
-use Rattle.r4_branch.specs.declared.piece.TwigPiece.{TwigPiece}
-use Rattle.r4_cell.specs.Seen.{CellSeen, node_of}
-use Rattle.r4_cell.specs.declared.change.Fresh.{Fresh}
+use Rattle.r4_extent_demands.specs.r4_branch.Pieces.{AreTwigPieces, Follow, piece_end, twig_bytes}
+use Rattle.r4_extent_demands.specs.r4_branch.declared.piece.TwigPiece.{TwigPiece}
+use Rattle.r4_extent_demands.specs.r4_cell.Seen.{CellSeen, node_of}
+use Rattle.r4_extent_demands.specs.r4_cell.declared.change.Fresh.{Fresh}
 use Rattle.r4_content.specs.Edited.{Edits}
-use Rattle.r4_graft.proofs.Placed.{follow_end, has_end}
+use Rattle.r4_extent_demands.proofs.r4_graft.Placed.{follow_end, has_end}
 use Rattle.r4_twig_turns.specs.r4_measure.Budget.{Budget}
-use Rattle.r4_patch.proofs.Members.{none}
-use Rattle.r4_path.specs.Grafts.{extra_twigs}
-use Rattle.r4_path.specs.TwigPieces.{twig_pieces}
-use Rattle.r4_path.proofs.Rising.{hi_is, level_is, lo_is}
-use Rattle.r4_reach.specs.Needs.{pieces_after}
-use Rattle.r4_reach.specs.Touched.{Body}
+use Rattle.r4_extent_demands.proofs.r4_patch.Members.{none}
+use Rattle.r4_extent_demands.specs.r4_path.Grafts.{extra_twigs}
+use Rattle.r4_extent_demands.specs.r4_path.TwigPieces.{twig_pieces}
+use Rattle.r4_extent_demands.proofs.r4_path.Rising.{hi_is, level_is, lo_is}
+use Rattle.r4_extent_demands.specs.r4_reach.Needs.{pieces_after}
+use Rattle.r4_extent_demands.specs.r4_reach.Touched.{Body}
 use Rattle.r4_twig_turns.specs.Turning.{IsReady}
-use Rattle.r4_work.specs.Working.{IsWorking, standing}
-use Rattle.r4_work.specs.declared.working.WorkingSet.{WorkingSet}
-use Rattle.r4_work.proofs.InPlace.{standing_is}
+use Rattle.r4_twig_turns.specs.r4_work.Working.{IsWorking, standing}
+use Rattle.r4_twig_turns.specs.r4_work.declared.working.WorkingSet.{WorkingSet}
+use Rattle.r4_twig_turns.proofs.r4_work.InPlace.{standing_is}
 use Rattle.r4_extent_build.specs.Growing.{IsClearFor, IsGrowing}
 use Rattle.r4_extent_build.specs.Turns.{growing_turn}
 use Rattle.r4_extent_build.proofs.GrowingTurns.{turn_of}

@@ -4,15 +4,15 @@ use Rattle.std.specs.Prelude.{Contains, Some}
 use Rattle.r4_base.specs.Key.{rank}
 use Rattle.r4_base.specs.Tree.{IsData, Name}
 use Rattle.r4_base.specs.declared.key.Key.{Key}
-use Rattle.r4_branch.specs.Pieces.{AreTwigPieces, names_of, twig_bytes}
-use Rattle.r4_branch.specs.declared.piece.TwigPiece.{TwigPiece}
-use Rattle.r4_cell.specs.Seen.{CellSeen, node_of}
+use Rattle.r4_extent_demands.specs.r4_branch.Pieces.{AreTwigPieces, names_of, twig_bytes}
+use Rattle.r4_extent_demands.specs.r4_branch.declared.piece.TwigPiece.{TwigPiece}
+use Rattle.r4_extent_demands.specs.r4_cell.Seen.{CellSeen, node_of}
 use Rattle.r4_content.specs.Edited.{Edits}
-use Rattle.r4_patch.proofs.Members.{cases, have_names, none}
-use Rattle.r4_path.specs.TwigPieces.{twig_pieces}
-use Rattle.r4_path.proofs.Rising.{hi_is, lo_is}
-use Rattle.r4_reach.specs.Needs.{pieces_after}
-use Rattle.r4_reach.specs.Touched.{Body}
+use Rattle.r4_extent_demands.proofs.r4_patch.Members.{cases, have_names, none}
+use Rattle.r4_extent_demands.specs.r4_path.TwigPieces.{twig_pieces}
+use Rattle.r4_extent_demands.proofs.r4_path.Rising.{hi_is, lo_is}
+use Rattle.r4_extent_demands.specs.r4_reach.Needs.{pieces_after}
+use Rattle.r4_extent_demands.specs.r4_reach.Touched.{Body}
 use Rattle.r4_extent_blocks.proofs.MadeCells.{new_whole}
 use Rattle.r4_extent_blocks.specs.Setting.{new_cell}
 use Rattle.r4_twig_turns.specs.Turning.{IsTurnOf}

@@ -9,16 +9,16 @@ use Rattle.std.proofs.lemmas.List.Elements.{Contains-append_cases, Contains-appe
 use Rattle.r4_base.specs.Key.{IsKey, offset_of, rank}
 use Rattle.r4_base.specs.Tree.{Name}
 use Rattle.r4_base.specs.declared.key.Key.{Key}
-use Rattle.r4_branch.specs.Pieces.{Follow, names_of, next_of, piece_end}
-use Rattle.r4_branch.specs.declared.piece.TwigPiece.{TwigPiece}
+use Rattle.r4_extent_demands.specs.r4_branch.Pieces.{Follow, names_of, next_of, piece_end}
+use Rattle.r4_extent_demands.specs.r4_branch.declared.piece.TwigPiece.{TwigPiece}
 use Rattle.r4_content.specs.Edited.{Edits}
-use Rattle.r4_graft.specs.Places.{HasGap}
-use Rattle.r4_graft.specs.Splices.{place, spliced}
-use Rattle.r4_graft.proofs.Joined.{follow_join, names_join, next_join}
-use Rattle.r4_graft.proofs.Placed.{follow_above, follow_end, has_end, place_none, place_some}
-use Rattle.r4_patch.proofs.Members.{cases, none}
-use Rattle.r4_reach.specs.Needs.{filled, gets_bytes, runs}
-use Rattle.r4_reach.specs.Touched.{Body}
+use Rattle.r4_extent_demands.specs.r4_graft.Places.{HasGap}
+use Rattle.r4_extent_demands.specs.r4_graft.Splices.{place, spliced}
+use Rattle.r4_extent_demands.proofs.r4_graft.Joined.{follow_join, names_join, next_join}
+use Rattle.r4_extent_demands.proofs.r4_graft.Placed.{follow_above, follow_end, has_end, place_none, place_some}
+use Rattle.r4_extent_demands.proofs.r4_patch.Members.{cases, none}
+use Rattle.r4_extent_demands.specs.r4_reach.Needs.{filled, gets_bytes, runs}
+use Rattle.r4_extent_demands.specs.r4_reach.Touched.{Body}
 use Rattle.r4_extent_build.specs.Numbering.{coming_count, is_told_block, names_coming, with_numbers}
 use Rattle.r4_extent_build.proofs.Numbers.{names_append, numbers_append}
 use Rattle.r4_extent_build.proofs.RunPieces.{AreFree, are_runs}

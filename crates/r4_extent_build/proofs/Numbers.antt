@@ -7,16 +7,16 @@ use Rattle.r4_base.specs.Cell.{zeros_from}
 use Rattle.r4_base.specs.Extents.{is_hole}
 use Rattle.r4_base.specs.Key.{offset_of, rank}
 use Rattle.r4_base.specs.Tree.{Name}
-use Rattle.r4_branch.specs.Pieces.{Follow, IsSoundPart, bytes_behind, next_of, open_end, part_bytes, part_end, part_units, piece_end, units_of}
-use Rattle.r4_branch.specs.declared.piece.TwigPart.{TwigPart}
-use Rattle.r4_branch.specs.declared.piece.TwigPart.TheVariants.{Blocks, Pointer}
-use Rattle.r4_branch.specs.declared.piece.TwigPiece.{TwigPiece}
-use Rattle.r4_cell.specs.Seen.{CellSeen}
-use Rattle.r4_cell.specs.declared.change.Fresh.{Fresh}
+use Rattle.r4_extent_demands.specs.r4_branch.Pieces.{Follow, IsSoundPart, bytes_behind, next_of, open_end, part_bytes, part_end, part_units, piece_end, units_of}
+use Rattle.r4_extent_demands.specs.r4_branch.declared.piece.TwigPart.{TwigPart}
+use Rattle.r4_extent_demands.specs.r4_branch.declared.piece.TwigPart.TheVariants.{Blocks, Pointer}
+use Rattle.r4_extent_demands.specs.r4_branch.declared.piece.TwigPiece.{TwigPiece}
+use Rattle.r4_extent_demands.specs.r4_cell.Seen.{CellSeen}
+use Rattle.r4_extent_demands.specs.r4_cell.declared.change.Fresh.{Fresh}
 use Rattle.r4_content.specs.Edited.{Edits}
 use Rattle.r4_extent_blocks.specs.Setting.{new_cell}
-use Rattle.r4_graft.proofs.Halves.{later_rank}
-use Rattle.r4_path.specs.Steps.{CountUp, name_of}
+use Rattle.r4_extent_demands.proofs.r4_graft.Halves.{later_rank}
+use Rattle.r4_extent_demands.specs.r4_path.Steps.{CountUp, name_of}
 use Rattle.r4_extent_build.specs.Numbering.{IsNumbered, block_name, block_of, cells_coming, coming_count, is_coming, is_told_block, names_coming, with_numbers}
 
 -- ---- the part that stands for a block that comes

@@ -2,12 +2,12 @@
 use Rattle.std.proofs.Common.{◌≡◌, ℕ, ◌+◌, List, sym, ap, subst, arith}
 use Rattle.r4_base.specs.Tree.{Root, Store}
 use Rattle.r4_base.specs.Value.{Value}
-use Rattle.r4_branch.specs.declared.piece.TwigPiece.{TwigPiece}
-use Rattle.r4_cell.specs.declared.change.Fresh.{Fresh}
+use Rattle.r4_extent_demands.specs.r4_branch.declared.piece.TwigPiece.{TwigPiece}
+use Rattle.r4_extent_demands.specs.r4_cell.declared.change.Fresh.{Fresh}
 use Rattle.r4_twig_turns.specs.r4_measure.Grafting.{Beside, IsRegrafted}
 use Rattle.r4_twig_turns.specs.Turning.{IsTurned, TwigTurn, own_of}
 use Rattle.r4_twig_turns.specs.r4_twig_work.Regrafting.{DoesBelow, IsRegraftable}
-use Rattle.r4_work.specs.declared.working.WorkingSet.{WorkingSet}
+use Rattle.r4_twig_turns.specs.r4_work.declared.working.WorkingSet.{WorkingSet}
 
 module _ (e : TwigTurn) (f left : Fresh) (leaves : e.leaves ≡ 0) (left_is : left ≡ record f { next = f.next + e.blocks }) where
   pub own_is : record { next = left.next; end = left.next + 64 } ≡ own_of e f

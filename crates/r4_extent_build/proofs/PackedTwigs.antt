@@ -8,17 +8,17 @@ use Rattle.r4_base.specs.Key.{IsKey, later, offset_of, rank}
 use Rattle.r4_base.specs.Node.{items_of}
 use Rattle.r4_base.specs.Volume.{blocks_for}
 use Rattle.r4_base.specs.declared.key.Key.{Key}
-use Rattle.r4_branch.specs.Pieces.{Follow, next_of, pieces_in}
-use Rattle.r4_branch.specs.declared.piece.TwigPiece.{TwigPiece}
-use Rattle.r4_cell.specs.Seen.{CellSeen, node_of}
+use Rattle.r4_extent_demands.specs.r4_branch.Pieces.{Follow, next_of, pieces_in}
+use Rattle.r4_extent_demands.specs.r4_branch.declared.piece.TwigPiece.{TwigPiece}
+use Rattle.r4_extent_demands.specs.r4_cell.Seen.{CellSeen, node_of}
 use Rattle.r4_content.specs.Edited.{Edits, is_between}
-use Rattle.r4_graft.specs.Splices.{place, spliced}
-use Rattle.r4_graft.proofs.Halves.{later_key, later_rank}
+use Rattle.r4_extent_demands.specs.r4_graft.Splices.{place, spliced}
+use Rattle.r4_extent_demands.proofs.r4_graft.Halves.{later_key, later_rank}
 use Rattle.r4_twig_turns.proofs.r4_measure.Kept.{block_is}
-use Rattle.r4_path.specs.TwigPieces.{twig_pieces}
-use Rattle.r4_path.proofs.Rising.{hi_is, lo_is}
-use Rattle.r4_reach.specs.Needs.{cut_pieces, filled, gets_bytes, pieces_after, runs, with_coming, without_gone}
-use Rattle.r4_reach.specs.Touched.{Body, coming, first_byte, going}
+use Rattle.r4_extent_demands.specs.r4_path.TwigPieces.{twig_pieces}
+use Rattle.r4_extent_demands.proofs.r4_path.Rising.{hi_is, lo_is}
+use Rattle.r4_extent_demands.specs.r4_reach.Needs.{cut_pieces, filled, gets_bytes, pieces_after, runs, with_coming, without_gone}
+use Rattle.r4_extent_demands.specs.r4_reach.Touched.{Body, coming, first_byte, going}
 use Rattle.r4_extent_build.specs.Growing.{IsClearFor, IsGrowing, MayBePacked, end_after, end_before}
 use Rattle.r4_extent_build.specs.Numbering.{with_numbers}
 use Rattle.r4_extent_build.proofs.FilledHoles.{AreFilled, are_filled}

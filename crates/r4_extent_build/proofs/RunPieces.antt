@@ -6,13 +6,13 @@ use Rattle.r4_base.specs.Cell.{run_names}
 use Rattle.r4_base.specs.Extents.{is_hole}
 use Rattle.r4_base.specs.Key.{IsKey, key_of_rank, later, offset_of, rank}
 use Rattle.r4_base.specs.declared.key.Key.{Key}
-use Rattle.r4_branch.specs.Pieces.{Follow, IsSoundPart, names_of, next_of, part_end, part_names, piece_end}
-use Rattle.r4_branch.specs.declared.piece.TwigPart.{TwigPart}
-use Rattle.r4_branch.specs.declared.piece.TwigPart.TheVariants.{Blocks, Pointer}
-use Rattle.r4_branch.specs.declared.piece.TwigPiece.{TwigPiece}
-use Rattle.r4_graft.proofs.Halves.{later_key, later_rank}
+use Rattle.r4_extent_demands.specs.r4_branch.Pieces.{Follow, IsSoundPart, names_of, next_of, part_end, part_names, piece_end}
+use Rattle.r4_extent_demands.specs.r4_branch.declared.piece.TwigPart.{TwigPart}
+use Rattle.r4_extent_demands.specs.r4_branch.declared.piece.TwigPart.TheVariants.{Blocks, Pointer}
+use Rattle.r4_extent_demands.specs.r4_branch.declared.piece.TwigPiece.{TwigPiece}
+use Rattle.r4_extent_demands.proofs.r4_graft.Halves.{later_key, later_rank}
 use Rattle.r4_extent_demands.proofs.r4_leaf_edits.KeyRanks.{key_again}
-use Rattle.r4_reach.specs.Needs.{runs, widened}
+use Rattle.r4_extent_demands.specs.r4_reach.Needs.{runs, widened}
 use Rattle.r4_extent_demands.specs.Pieces.{block_at}
 use Rattle.r4_extent_build.specs.Numbering.{block_name, has_block_at, is_coming, is_told_block, names_coming, with_numbers}
 use Rattle.r4_extent_build.proofs.Numbers.{names_off, names_on, numbers_off, numbers_on}

@@ -9,16 +9,16 @@ use Rattle.r4_base.specs.Cell.{zeros_from}
 use Rattle.r4_base.specs.Extents.{is_hole}
 use Rattle.r4_base.specs.Key.{rank}
 use Rattle.r4_base.specs.Value.{Byte, Value}
-use Rattle.r4_branch.specs.Pieces.{part_end, part_units, piece_end, units_of}
-use Rattle.r4_branch.specs.declared.piece.TwigPart.{TwigPart}
-use Rattle.r4_branch.specs.declared.piece.TwigPart.TheVariants.{Blocks, Pointer}
-use Rattle.r4_branch.specs.declared.piece.TwigPiece.{TwigPiece}
+use Rattle.r4_extent_demands.specs.r4_branch.Pieces.{part_end, part_units, piece_end, units_of}
+use Rattle.r4_extent_demands.specs.r4_branch.declared.piece.TwigPart.{TwigPart}
+use Rattle.r4_extent_demands.specs.r4_branch.declared.piece.TwigPart.TheVariants.{Blocks, Pointer}
+use Rattle.r4_extent_demands.specs.r4_branch.declared.piece.TwigPiece.{TwigPiece}
 use Rattle.r4_content.specs.Edited.{Edits, Pairs, is_in, put_keys}
 use Rattle.r4_extent_blocks.specs.Setting.{byte_of, byte_set, last_put, zero_in}
-use Rattle.r4_leaf.specs.Units.{is_between}
-use Rattle.r4_patch.proofs.Members.{here, later, none}
-use Rattle.r4_reach.specs.Needs.{gets_bytes, is_hole_part, is_met, meets}
-use Rattle.r4_reach.specs.Touched.{Body, first_byte, turns_out}
+use Rattle.r4_extent_demands.specs.r4_leaf.Units.{is_between}
+use Rattle.r4_extent_demands.proofs.r4_patch.Members.{here, later, none}
+use Rattle.r4_extent_demands.specs.r4_reach.Needs.{gets_bytes, is_hole_part, is_met, meets}
+use Rattle.r4_extent_demands.specs.r4_reach.Touched.{Body, first_byte, turns_out}
 use Rattle.r4_extent_build.specs.Setting.{in_hole_of, is_hole_of}
 use Rattle.r4_extent_build.proofs.UnitsFilled.{in_off, in_on, or_cases, or_left, or_right, other_units}
 use Rattle.r4_extent_build.proofs.UnitsOfRuns.{zeros_members}

@@ -10,19 +10,19 @@ use Rattle.std.proofs.lemmas.Option.{same_Some}
 use Rattle.r4_base.specs.Key.{IsKey, offset_of, rank}
 use Rattle.r4_base.specs.Value.{Value}
 use Rattle.r4_base.specs.declared.key.Key.{Key}
-use Rattle.r4_branch.specs.Pieces.{Follow, part_units, piece_end, units_of}
-use Rattle.r4_branch.specs.declared.piece.TwigPiece.{TwigPiece}
-use Rattle.r4_branch.proofs.ItemPieces.{units_append}
-use Rattle.r4_cell.specs.Seen.{CellSeen, node_of}
+use Rattle.r4_extent_demands.specs.r4_branch.Pieces.{Follow, part_units, piece_end, units_of}
+use Rattle.r4_extent_demands.specs.r4_branch.declared.piece.TwigPiece.{TwigPiece}
+use Rattle.r4_extent_demands.proofs.r4_branch.ItemPieces.{units_append}
+use Rattle.r4_extent_demands.specs.r4_cell.Seen.{CellSeen, node_of}
 use Rattle.r4_content.specs.Edited.{Edits, is_between}
 use Rattle.r4_extent_blocks.specs.Setting.{byte_set}
-use Rattle.r4_leaf.specs.Units.{is_between as between}
-use Rattle.r4_graft.specs.Places.{HasGap}
-use Rattle.r4_patch.proofs.Members.{none}
-use Rattle.r4_patch.specs.Effect.{Placed}
-use Rattle.r4_path.specs.TwigPieces.{twig_pieces}
-use Rattle.r4_reach.specs.Needs.{filled, gets_bytes, pieces_after, runs}
-use Rattle.r4_reach.specs.Touched.{Body}
+use Rattle.r4_extent_demands.specs.r4_leaf.Units.{is_between as between}
+use Rattle.r4_extent_demands.specs.r4_graft.Places.{HasGap}
+use Rattle.r4_extent_demands.proofs.r4_patch.Members.{none}
+use Rattle.r4_twig_turns.specs.r4_patch.Effect.{Placed}
+use Rattle.r4_extent_demands.specs.r4_path.TwigPieces.{twig_pieces}
+use Rattle.r4_extent_demands.specs.r4_reach.Needs.{filled, gets_bytes, pieces_after, runs}
+use Rattle.r4_extent_demands.specs.r4_reach.Touched.{Body}
 use Rattle.r4_twig_turns.specs.r4_twig_work.Regrafting.{SetsBelow, StandsBelow}
 use Rattle.r4_extent_build.specs.Growing.{IsClearFor, IsGrowing, end_after, end_before}
 use Rattle.r4_extent_build.specs.Numbering.{cells_coming, coming_count, with_numbers}

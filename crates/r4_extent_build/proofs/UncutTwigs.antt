@@ -6,12 +6,12 @@ use Rattle.std.proofs.lemmas.List.{take-append-drop}
 use Rattle.r4_base.specs.Key.{rank}
 use Rattle.r4_base.specs.Tree.{Node}
 use Rattle.r4_base.specs.Value.{Value}
-use Rattle.r4_branch.specs.Pieces.{Follow, IsSound, piece_end}
-use Rattle.r4_branch.specs.declared.piece.TwigPiece.{TwigPiece}
-use Rattle.r4_graft.specs.Splices.{halves, is_within, parted, parted_piece, place, spliced}
-use Rattle.r4_graft.proofs.Placed.{has_end}
-use Rattle.r4_patch.proofs.Members.{cases, here, later as later_in, none}
-use Rattle.r4_reach.specs.Needs.{cut_pieces, taken_up, without_gone}
+use Rattle.r4_extent_demands.specs.r4_branch.Pieces.{Follow, IsSound, piece_end}
+use Rattle.r4_extent_demands.specs.r4_branch.declared.piece.TwigPiece.{TwigPiece}
+use Rattle.r4_extent_demands.specs.r4_graft.Splices.{halves, is_within, parted, parted_piece, place, spliced}
+use Rattle.r4_extent_demands.proofs.r4_graft.Placed.{has_end}
+use Rattle.r4_extent_demands.proofs.r4_patch.Members.{cases, here, later as later_in, none}
+use Rattle.r4_extent_demands.specs.r4_reach.Needs.{cut_pieces, taken_up, without_gone}
 
 sound_of : (from to : ℕ) (ps : List TwigPiece) (q : TwigPiece) → Follow from to ps → Contains ps q → IsSound q
 sound_of from to [] q f m = absurd (none q m)

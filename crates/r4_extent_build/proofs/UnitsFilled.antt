@@ -9,18 +9,18 @@ use Rattle.std.proofs.lemmas.List.Elements.{Contains-append_cases, Contains-appe
 use Rattle.r4_base.specs.Extents.{is_hole}
 use Rattle.r4_base.specs.Key.{offset_of, rank}
 use Rattle.r4_base.specs.Value.{Value}
-use Rattle.r4_branch.specs.Pieces.{Follow, IsSound, IsSoundPart, part_end, part_units, piece_end, units_of}
-use Rattle.r4_branch.specs.declared.piece.TwigPart.{TwigPart}
-use Rattle.r4_branch.specs.declared.piece.TwigPart.TheVariants.{Blocks, Pointer}
-use Rattle.r4_branch.specs.declared.piece.TwigPiece.{TwigPiece}
-use Rattle.r4_branch.proofs.ItemPieces.{units_append}
+use Rattle.r4_extent_demands.specs.r4_branch.Pieces.{Follow, IsSound, IsSoundPart, part_end, part_units, piece_end, units_of}
+use Rattle.r4_extent_demands.specs.r4_branch.declared.piece.TwigPart.{TwigPart}
+use Rattle.r4_extent_demands.specs.r4_branch.declared.piece.TwigPart.TheVariants.{Blocks, Pointer}
+use Rattle.r4_extent_demands.specs.r4_branch.declared.piece.TwigPiece.{TwigPiece}
+use Rattle.r4_extent_demands.proofs.r4_branch.ItemPieces.{units_append}
 use Rattle.r4_content.specs.Edited.{Edits}
 use Rattle.r4_extent_blocks.specs.Setting.{byte_set}
-use Rattle.r4_leaf.specs.Units.{is_between}
-use Rattle.r4_patch.proofs.Members.{here, later, none}
-use Rattle.r4_patch.specs.Effect.{Placed}
-use Rattle.r4_reach.specs.Needs.{filled, gets_bytes, is_hole_part, runs}
-use Rattle.r4_reach.specs.Touched.{Body, first_byte}
+use Rattle.r4_extent_demands.specs.r4_leaf.Units.{is_between}
+use Rattle.r4_extent_demands.proofs.r4_patch.Members.{here, later, none}
+use Rattle.r4_twig_turns.specs.r4_patch.Effect.{Placed}
+use Rattle.r4_extent_demands.specs.r4_reach.Needs.{filled, gets_bytes, is_hole_part, runs}
+use Rattle.r4_extent_demands.specs.r4_reach.Touched.{Body, first_byte}
 use Rattle.r4_twig_turns.specs.r4_twig_work.Regrafting.{StandsBelow}
 use Rattle.r4_extent_build.specs.Numbering.{cells_coming, coming_count}
 use Rattle.r4_extent_build.specs.Setting.{byte_after, in_hole_of, is_hole_of}

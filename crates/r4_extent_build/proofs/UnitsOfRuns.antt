@@ -8,17 +8,17 @@ use Rattle.r4_base.specs.Cell.{bytes_from, cell_of, zeros_from}
 use Rattle.r4_base.specs.Key.{IsKey, key_of_rank, later, offset_of, rank}
 use Rattle.r4_base.specs.Value.{Byte, Value}
 use Rattle.r4_base.specs.declared.key.Key.{Key}
-use Rattle.r4_branch.specs.Pieces.{part_units, units_of}
-use Rattle.r4_branch.specs.declared.piece.TwigPart.TheVariants.{Blocks}
-use Rattle.r4_branch.specs.declared.piece.TwigPiece.{TwigPiece}
-use Rattle.r4_cell.specs.Seen.{CellSeen, node_of}
+use Rattle.r4_extent_demands.specs.r4_branch.Pieces.{part_units, units_of}
+use Rattle.r4_extent_demands.specs.r4_branch.declared.piece.TwigPart.TheVariants.{Blocks}
+use Rattle.r4_extent_demands.specs.r4_branch.declared.piece.TwigPiece.{TwigPiece}
+use Rattle.r4_extent_demands.specs.r4_cell.Seen.{CellSeen, node_of}
 use Rattle.r4_content.specs.Edited.{Edits}
 use Rattle.r4_extent_blocks.specs.Setting.{byte_set, new_bytes, new_cell}
-use Rattle.r4_graft.proofs.Halves.{later_key, later_rank}
+use Rattle.r4_extent_demands.proofs.r4_graft.Halves.{later_key, later_rank}
 use Rattle.r4_extent_demands.proofs.r4_leaf_edits.KeyRanks.{key_again}
-use Rattle.r4_patch.proofs.Members.{cases, here, later as later_in, none}
-use Rattle.r4_patch.specs.Effect.{Placed}
-use Rattle.r4_reach.specs.Needs.{runs, widened}
+use Rattle.r4_extent_demands.proofs.r4_patch.Members.{cases, here, later as later_in, none}
+use Rattle.r4_twig_turns.specs.r4_patch.Effect.{Placed}
+use Rattle.r4_extent_demands.specs.r4_reach.Needs.{runs, widened}
 use Rattle.r4_twig_turns.specs.r4_twig_work.Regrafting.{StandsBelow}
 use Rattle.r4_extent_demands.specs.Pieces.{block_at}
 use Rattle.r4_extent_build.specs.Numbering.{cells_coming, has_block_at, is_told_block}

@@ -4,14 +4,14 @@ use Rattle.std.specs.Prelude.{◌≡◌, ◌↔◌, ◌⊎◌, ℕ, ◌<◌, ◌
 use Rattle.r4_base.specs.Key.{rank}
 use Rattle.r4_base.specs.Tree.{Name}
 use Rattle.r4_base.specs.declared.key.Key.{Key}
-use Rattle.r4_branch.specs.Pieces.{AreTwigPieces, names_of, piece_end, twig_bytes}
-use Rattle.r4_branch.specs.declared.piece.TwigPiece.{TwigPiece}
-use Rattle.r4_cell.specs.Seen.{CellSeen, node_of}
+use Rattle.r4_extent_demands.specs.r4_branch.Pieces.{AreTwigPieces, names_of, piece_end, twig_bytes}
+use Rattle.r4_extent_demands.specs.r4_branch.declared.piece.TwigPiece.{TwigPiece}
+use Rattle.r4_extent_demands.specs.r4_cell.Seen.{CellSeen, node_of}
 use Rattle.r4_content.specs.Edited.{is_between}
-use Rattle.r4_graft.specs.Places.{HasGap}
-use Rattle.r4_path.specs.Steps.{CountUp}
-use Rattle.r4_path.specs.TwigPieces.{ArePiecesOf, twig_pieces}
-use Rattle.r4_reach.specs.Touched.{Body, blocks_end, is_spread}
+use Rattle.r4_extent_demands.specs.r4_graft.Places.{HasGap}
+use Rattle.r4_extent_demands.specs.r4_path.Steps.{CountUp}
+use Rattle.r4_extent_demands.specs.r4_path.TwigPieces.{ArePiecesOf, twig_pieces}
+use Rattle.r4_extent_demands.specs.r4_reach.Touched.{Body, blocks_end, is_spread}
 use Rattle.r4_extent_demands.specs.Sizes.{IsFirstKey, IsSizedBody}
 use Rattle.r4_extent_build.specs.Numbering.{coming_count, names_coming, with_numbers}
 

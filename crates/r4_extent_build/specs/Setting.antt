@@ -5,16 +5,16 @@ use Rattle.std.specs.List.{list_any}
 use Rattle.r4_base.specs.Key.{rank}
 use Rattle.r4_base.specs.Tree.{Holds}
 use Rattle.r4_base.specs.Value.{Byte, Value}
-use Rattle.r4_branch.specs.Pieces.{piece_end}
-use Rattle.r4_branch.specs.declared.piece.TwigPiece.{TwigPiece}
-use Rattle.r4_cell.specs.Seen.{CellSeen, node_of}
+use Rattle.r4_extent_demands.specs.r4_branch.Pieces.{piece_end}
+use Rattle.r4_extent_demands.specs.r4_branch.declared.piece.TwigPiece.{TwigPiece}
+use Rattle.r4_extent_demands.specs.r4_cell.Seen.{CellSeen, node_of}
 use Rattle.r4_content.specs.Edited.{Edits}
 use Rattle.r4_extent_blocks.specs.Setting.{byte_set}
-use Rattle.r4_leaf.specs.Units.{is_between}
-use Rattle.r4_patch.specs.Effect.{Placed}
-use Rattle.r4_path.specs.TwigPieces.{twig_pieces}
-use Rattle.r4_reach.specs.Needs.{is_hole_part}
-use Rattle.r4_reach.specs.Touched.{Body, first_byte}
+use Rattle.r4_extent_demands.specs.r4_leaf.Units.{is_between}
+use Rattle.r4_twig_turns.specs.r4_patch.Effect.{Placed}
+use Rattle.r4_extent_demands.specs.r4_path.TwigPieces.{twig_pieces}
+use Rattle.r4_extent_demands.specs.r4_reach.Needs.{is_hole_part}
+use Rattle.r4_extent_demands.specs.r4_reach.Touched.{Body, first_byte}
 use Rattle.r4_extent_build.specs.Growing.{end_after, end_before}
 
 -- what stands at a key of a block that comes, or of a hole: the byte that edits set there, or a zero

@@ -1,11 +1,11 @@
 -- The turn of a twig of a body that grows (docs/volume.md, "Bodies in extents").
 use Rattle.std.specs.Prelude.{[], Some}
 use Rattle.r4_base.specs.Key.{rank}
-use Rattle.r4_cell.specs.Seen.{CellSeen, node_of}
+use Rattle.r4_extent_demands.specs.r4_cell.Seen.{CellSeen, node_of}
 use Rattle.r4_content.specs.Edited.{Edits}
-use Rattle.r4_path.specs.TwigPieces.{twig_pieces}
-use Rattle.r4_reach.specs.Needs.{pieces_after}
-use Rattle.r4_reach.specs.Touched.{Body}
+use Rattle.r4_extent_demands.specs.r4_path.TwigPieces.{twig_pieces}
+use Rattle.r4_extent_demands.specs.r4_reach.Needs.{pieces_after}
+use Rattle.r4_extent_demands.specs.r4_reach.Touched.{Body}
 use Rattle.r4_twig_turns.specs.Turning.{TwigTurn}
 use Rattle.r4_extent_build.specs.Numbering.{cells_coming, coming_count, with_numbers}
 

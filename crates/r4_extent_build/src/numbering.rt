@@ -4,9 +4,9 @@ ghost use Rattle.std.specs.Prelude.{◌≡◌, ◌+◌, ◌^◌, ◌<◌, ◌++�
 ghost use Rattle.std.specs.Arc.{arc_value};
 ghost use Rattle.r4_base.specs.Key.{offset_of, rank};
 ghost use Rattle.r4_content.specs.Held.{edits_of};
-ghost use Rattle.r4_path.specs.TwigPieces.{twig_pieces};
-ghost use Rattle.r4_reach.specs.Needs.{pieces_after};
-ghost use Rattle.r4_cell.specs.Seen.{node_of};
+ghost use Rattle.r4_extent_demands.specs.r4_path.TwigPieces.{twig_pieces};
+ghost use Rattle.r4_extent_demands.specs.r4_reach.Needs.{pieces_after};
+ghost use Rattle.r4_extent_demands.specs.r4_cell.Seen.{node_of};
 ghost use Rattle.r4_extent_demands.specs.Sizes.{IsSizedBody};
 ghost use Rattle.r4_extent_blocks.specs.Setting.{new_cell};
 ghost use Rattle.r4_extent_build.specs.Numbering.{CanNumber, IsNumbered, block_of};
@@ -14,12 +14,10 @@ ghost use Rattle.r4_extent_build.specs.Numbering.{has_block_at, is_coming};
 ghost use Rattle.r4_extent_build.specs.Numbering.{is_told_block};
 
 use r4_base::{Key, Memory, UNPLACED, Unit};
-use r4_branch::{TwigPart, TwigPiece};
-use r4_cell::{Cell, Fresh};
 use r4_content::Edits;
-use r4_extent_blocks::new_block;
-use r4_extent_demands::{SizedBody, pieces_after};
-use r4_path::{pieces_of_cell, take_number};
+use r4_extent_blocks::{Cell, Fresh, new_block};
+use r4_extent_demands::{SizedBody, TwigPart, TwigPiece, pieces_after};
+use r4_twig_turns::{pieces_of_cell, take_number};
 use std::alloc::Global;
 use std::sync::Arc;
 

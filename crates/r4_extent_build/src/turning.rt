@@ -4,7 +4,7 @@ ghost use Rattle.std.specs.Prelude.{◌≡◌, ◌+◌, ◌^◌, ◌≤◌, OnOk
 ghost use Rattle.std.specs.Arc.{arc_value};
 ghost use Rattle.r4_base.specs.Tree.{Root as TreeRoot, Store};
 ghost use Rattle.r4_base.specs.Value.{Value};
-ghost use Rattle.r4_cell.specs.declared.change.Fresh.{Fresh as FreshSeen};
+ghost use Rattle.r4_extent_demands.specs.r4_cell.declared.change.Fresh.{Fresh as FreshSeen};
 ghost use Rattle.r4_content.specs.Held.{edits_of};
 ghost use Rattle.r4_twig_turns.specs.Turning.{IsTurned, behind, own_of};
 ghost use Rattle.r4_twig_turns.specs.r4_twig_work.Regrafting.{DoesBelow, IsRegraftable};
@@ -15,11 +15,10 @@ ghost use Rattle.r4_extent_build.specs.Turns.{growing_turn};
 
 use crate::numbering::{NumberedTwig, numbered};
 use r4_base::Memory;
-use r4_cell::{Cell, Fresh};
 use r4_content::Edits;
+use r4_extent_blocks::{Cell, Fresh};
 use r4_extent_demands::SizedBody;
-use r4_twig_turns::{Below, regraft};
-use r4_work::WorkingSet;
+use r4_twig_turns::{Below, WorkingSet, regraft};
 use std::alloc::Global;
 use std::sync::Arc;
 

@@ -5,17 +5,17 @@ use Rattle.std.proofs.lemmas.List.Sums.{sum_by-cons}
 use Rattle.r4_base.specs.Tree.{Root, Store}
 use Rattle.r4_base.specs.Value.{Value}
 use Rattle.r4_build.specs.Making.{IsOf}
-use Rattle.r4_extent_build.proofs.r4_twig_turns.TurnByTurn.{few_come, next_measure, still_all, still_ready}
-use Rattle.r4_extent_build.specs.Looping.{AreTurned, behind_all}
-use Rattle.r4_extent_build.specs.r4_twig_turns.Turning.{AreReady, TwigTurn, behind, numbers_for}
-use Rattle.r4_measure.proofs.r4_patch.Members.{here, later}
-use Rattle.r4_measure.specs.Budget.{Budget, most_from}
-use Rattle.r4_measure.specs.Grafting.{IsQuietBelow}
-use Rattle.r4_measure.specs.Measured.{IsMeasured}
-use Rattle.r4_measure.specs.r4_cell.Seen.{CellSeen}
-use Rattle.r4_measure.specs.r4_cell.declared.change.Fresh.{Fresh}
-use Rattle.r4_measure.specs.r4_work.Working.{root_of, standing}
-use Rattle.r4_measure.specs.r4_work.declared.working.WorkingSet.{WorkingSet}
+use Rattle.r4_extent_loss.proofs.r4_extent_build.r4_twig_turns.TurnByTurn.{few_come, next_measure, still_all, still_ready}
+use Rattle.r4_extent_loss.specs.r4_extent_build.Looping.{AreTurned, behind_all}
+use Rattle.r4_extent_loss.specs.r4_extent_build.r4_twig_turns.Turning.{AreReady, TwigTurn, behind, numbers_for}
+use Rattle.r4_build.proofs.r4_measure.r4_patch.Members.{here, later}
+use Rattle.r4_build.specs.r4_measure.Budget.{Budget, most_from}
+use Rattle.r4_build.specs.r4_measure.Grafting.{IsQuietBelow}
+use Rattle.r4_build.specs.r4_measure.Measured.{IsMeasured}
+use Rattle.r4_build.specs.r4_measure.r4_cell.Seen.{CellSeen}
+use Rattle.r4_build.specs.r4_measure.r4_cell.declared.change.Fresh.{Fresh}
+use Rattle.r4_build.specs.r4_measure.r4_work.Working.{root_of, standing}
+use Rattle.r4_build.specs.r4_measure.r4_work.declared.working.WorkingSet.{WorkingSet}
 use Rattle.r4_extent_change.specs.Wider.{GoesOn, IsWider}
 use Rattle.r4_extent_change.proofs.TwigTurn.{as_wide, leaf_goes_on, leaf_stays, now_of_cells, wider_still}
 

@@ -12,18 +12,18 @@ use Rattle.r4_build.specs.Making.{IsOf}
 use Rattle.r4_content.specs.Edited.{Edits}
 use Rattle.r4_extent_renew.specs.Overwriting.{AreSetAmong, AreStandingCells}
 use Rattle.r4_extent_renew.proofs.Picked.{of_cells}
-use Rattle.r4_measure.proofs.Loop.{of_id}
-use Rattle.r4_measure.proofs.r4_patch.Members.{Distinct, cases, distinct, none}
-use Rattle.r4_measure.proofs.r4_work.Starting.{start_working}
-use Rattle.r4_measure.specs.Budget.{AreSeen, Budget, IsBudget, cells_from, most_from}
-use Rattle.r4_measure.specs.Measured.{IsMeasured}
-use Rattle.r4_measure.specs.r4_cell.Patch.{HaveNames, Patch, patch_of, place, root_after}
-use Rattle.r4_measure.specs.r4_cell.Seen.{CellSeen}
-use Rattle.r4_measure.specs.r4_cell.declared.change.Fresh.{Fresh}
-use Rattle.r4_measure.specs.r4_patch.Joining.{ids_of, patch_of_change}
-use Rattle.r4_measure.specs.r4_work.Working.{AreCellsIn, IsStart, IsWorking, now_of, root_of, standing}
-use Rattle.r4_measure.specs.r4_work.declared.working.WorkingSet.{WorkingSet}
-use Rattle.r4_extent_build.specs.r4_twig_turns.r4_twig_work.Renewing.{IsRenewed, StandAsBefore}
+use Rattle.r4_build.proofs.r4_measure.Loop.{of_id}
+use Rattle.r4_build.proofs.r4_measure.r4_patch.Members.{Distinct, cases, distinct, none}
+use Rattle.r4_build.proofs.r4_measure.r4_work.Starting.{start_working}
+use Rattle.r4_build.specs.r4_measure.Budget.{AreSeen, Budget, IsBudget, cells_from, most_from}
+use Rattle.r4_build.specs.r4_measure.Measured.{IsMeasured}
+use Rattle.r4_build.specs.r4_measure.r4_cell.Patch.{HaveNames, Patch, patch_of, place, root_after}
+use Rattle.r4_build.specs.r4_measure.r4_cell.Seen.{CellSeen}
+use Rattle.r4_build.specs.r4_measure.r4_cell.declared.change.Fresh.{Fresh}
+use Rattle.r4_build.specs.r4_measure.r4_patch.Joining.{ids_of, patch_of_change}
+use Rattle.r4_build.specs.r4_measure.r4_work.Working.{AreCellsIn, IsStart, IsWorking, now_of, root_of, standing}
+use Rattle.r4_build.specs.r4_measure.r4_work.declared.working.WorkingSet.{WorkingSet}
+use Rattle.r4_extent_loss.specs.r4_extent_build.r4_twig_turns.r4_twig_work.Renewing.{IsRenewed, StandAsBefore}
 use Rattle.r4_extent_change.specs.Changing.{AreMeasured}
 
 -- two of the cells that have one name are one cell

@@ -2,8 +2,8 @@
 use Rattle.std.proofs.Common.{◌≡◌, ◌≢◌, inl, inr, Bool, true, false, List, [], ◌∷◌, refl, sym, ap, subst, ◌∙◌}
 use Rattle.std.specs.Prelude.{Contains, if◌then◌else◌}
 use Rattle.std.specs.List.{filter}
-use Rattle.r4_measure.proofs.r4_patch.Members.{Distinct, cases, here, later, none}
-use Rattle.r4_measure.specs.r4_cell.Seen.{CellSeen}
+use Rattle.r4_build.proofs.r4_measure.r4_patch.Members.{Distinct, cases, here, later, none}
+use Rattle.r4_build.specs.r4_measure.r4_cell.Seen.{CellSeen}
 
 pass_one : (v : Bool) (p : CellSeen → Bool) (x y : CellSeen) (xs rest : List CellSeen) → p x ≡ v → (Contains rest y → Contains xs y × (p y ≡ true)) → Contains (if v then x ∷ rest else rest) y → Contains (x ∷ xs) y × (p y ≡ true)
 pass_one true p x y xs rest is more at = elim (cases x y rest at) [

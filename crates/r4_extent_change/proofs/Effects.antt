@@ -9,16 +9,16 @@ use Rattle.r4_build.proofs.Made.{all_keys}
 use Rattle.r4_build.specs.Building.{LiesInLeaf, set_by}
 use Rattle.r4_build.specs.Making.{changed_among}
 use Rattle.r4_content.specs.Edited.{Edits, changed, is_in}
-use Rattle.r4_extent_build.specs.Looping.{keys_of_each}
-use Rattle.r4_extent_build.specs.Setting.{bytes_after}
+use Rattle.r4_extent_loss.specs.r4_extent_build.Looping.{keys_of_each}
+use Rattle.r4_extent_loss.specs.r4_extent_build.Setting.{bytes_after}
 use Rattle.r4_extent_renew.specs.Overwriting.{blocks_among, bytes_set, in_blocks, is_set_in}
-use Rattle.r4_measure.specs.r4_cell.Seen.{CellSeen}
-use Rattle.r4_measure.specs.r4_patch.Effect.{HasEffect, Placed, either, in_extent, later}
-use Rattle.r4_measure.specs.r4_patch.Joining.{patch_of_change}
-use Rattle.r4_measure.specs.r4_reach.Touched.{Body}
-use Rattle.r4_measure.specs.r4_work.Remaking.{Changes}
-use Rattle.r4_measure.specs.r4_work.Working.{HasNoEffect}
-use Rattle.r4_measure.specs.r4_work.declared.working.WorkingSet.{WorkingSet}
+use Rattle.r4_build.specs.r4_measure.r4_cell.Seen.{CellSeen}
+use Rattle.r4_build.specs.r4_measure.r4_patch.Effect.{HasEffect, Placed, either, in_extent, later}
+use Rattle.r4_build.specs.r4_measure.r4_patch.Joining.{patch_of_change}
+use Rattle.r4_build.specs.r4_measure.r4_reach.Touched.{Body}
+use Rattle.r4_build.specs.r4_measure.r4_work.Remaking.{Changes}
+use Rattle.r4_build.specs.r4_measure.r4_work.Working.{HasNoEffect}
+use Rattle.r4_build.specs.r4_measure.r4_work.declared.working.WorkingSet.{WorkingSet}
 use Rattle.r4_extent_change.specs.Beside.{turning_among, without_bytes}
 use Rattle.r4_extent_change.specs.Changing.{grown_keys, grown_values}
 

@@ -3,15 +3,15 @@ use Rattle.std.proofs.Common.{◌≡◌, ◌↔◌, ℕ, ◌<◌, ◌≤◌, tru
 use Rattle.std.specs.Prelude.{◌&&◌}
 use Rattle.std.proofs.lemmas.Bool.{eq-eqb, lt-ltb}
 use Rattle.r4_base.specs.Key.{rank}
-use Rattle.r4_extent_build.specs.Growing.{end_after, end_before}
-use Rattle.r4_extent_demands.proofs.PutsInto.{any_there, there_any}
+use Rattle.r4_extent_loss.specs.r4_extent_build.Growing.{end_after, end_before}
+use Rattle.r4_extent_counts.proofs.r4_extent_demands.PutsInto.{any_there, there_any}
 use Rattle.r4_extent_loss.proofs.LossChanges.{gone_after, gone_before, larger_less, smaller_more}
 use Rattle.r4_extent_loss.proofs.LostPieces.{gone_high, gone_low}
 use Rattle.r4_extent_loss.proofs.r4_extent_edit.ExtentEffect.{is_on}
 use Rattle.r4_extent_loss.specs.Losing.{gone_from, gone_to, in_gone}
-use Rattle.r4_measure.proofs.r4_work.UnitMembers.{between}
-use Rattle.r4_measure.specs.r4_cell.Seen.{CellSeen}
-use Rattle.r4_measure.specs.r4_reach.Touched.{Body}
+use Rattle.r4_build.proofs.r4_measure.r4_work.UnitMembers.{between}
+use Rattle.r4_build.specs.r4_measure.r4_cell.Seen.{CellSeen}
+use Rattle.r4_build.specs.r4_measure.r4_reach.Touched.{Body}
 use Rattle.r4_extent_change.specs.Among.{GoesAt, gone_among, is_losing, losing_twigs}
 use Rattle.r4_extent_change.proofs.Chosen.{kept_in}
 use Rattle.r4_extent_change.proofs.LossAmong.{losing_is}

@@ -7,20 +7,20 @@ use Rattle.r4_base.specs.Value.{Value}
 use Rattle.r4_base.specs.declared.key.Key.{Key}
 use Rattle.r4_build.specs.Making.{IsOf}
 use Rattle.r4_content.specs.Edited.{Edits}
-use Rattle.r4_extent_build.proofs.GrowingReady.{is_ready}
-use Rattle.r4_extent_build.proofs.r4_twig_turns.TurnByTurn.{all_turns}
-use Rattle.r4_extent_build.specs.Growing.{IsGrowing}
-use Rattle.r4_extent_build.specs.Looping.{AreTurned, CanTurnAll, behind_all, turns_of}
-use Rattle.r4_extent_build.specs.Turns.{growing_turn}
-use Rattle.r4_extent_build.specs.r4_twig_turns.Turning.{AreReady, TwigTurn}
-use Rattle.r4_measure.proofs.Loop.{of_id}
-use Rattle.r4_measure.proofs.r4_patch.Members.{Distinct, cases, distinct, here, later, none}
-use Rattle.r4_measure.specs.Budget.{Budget}
-use Rattle.r4_measure.specs.r4_cell.Seen.{CellSeen}
-use Rattle.r4_measure.specs.r4_cell.declared.change.Fresh.{Fresh}
-use Rattle.r4_measure.specs.r4_patch.Joining.{ids_of}
-use Rattle.r4_measure.specs.r4_reach.Touched.{Body}
-use Rattle.r4_measure.specs.r4_work.declared.working.WorkingSet.{WorkingSet}
+use Rattle.r4_extent_loss.proofs.r4_extent_build.GrowingReady.{is_ready}
+use Rattle.r4_extent_loss.proofs.r4_extent_build.r4_twig_turns.TurnByTurn.{all_turns}
+use Rattle.r4_extent_loss.specs.r4_extent_build.Growing.{IsGrowing}
+use Rattle.r4_extent_loss.specs.r4_extent_build.Looping.{AreTurned, CanTurnAll, behind_all, turns_of}
+use Rattle.r4_extent_loss.specs.r4_extent_build.Turns.{growing_turn}
+use Rattle.r4_extent_loss.specs.r4_extent_build.r4_twig_turns.Turning.{AreReady, TwigTurn}
+use Rattle.r4_build.proofs.r4_measure.Loop.{of_id}
+use Rattle.r4_build.proofs.r4_measure.r4_patch.Members.{Distinct, cases, distinct, here, later, none}
+use Rattle.r4_build.specs.r4_measure.Budget.{Budget}
+use Rattle.r4_build.specs.r4_measure.r4_cell.Seen.{CellSeen}
+use Rattle.r4_build.specs.r4_measure.r4_cell.declared.change.Fresh.{Fresh}
+use Rattle.r4_build.specs.r4_measure.r4_patch.Joining.{ids_of}
+use Rattle.r4_build.specs.r4_measure.r4_reach.Touched.{Body}
+use Rattle.r4_build.specs.r4_measure.r4_work.declared.working.WorkingSet.{WorkingSet}
 use Rattle.r4_extent_change.specs.Turned.{LeavesLeaves, MayTurnAll, blocks_coming}
 use Rattle.r4_extent_change.proofs.AllTurned.{AreDone, IsMild, all_done, coming}
 

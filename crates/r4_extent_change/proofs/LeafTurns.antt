@@ -11,27 +11,27 @@ use Rattle.r4_build.proofs.MetKeys.{met_key}
 use Rattle.r4_build.specs.Making.{AreTurnsOf, CanMake, IsTurnOf, MakeAtMost}
 use Rattle.r4_content.specs.Edited.{Edits, changed, is_between}
 use Rattle.r4_content.specs.Listed.{list_edited}
-use Rattle.r4_measure.proofs.Loop.{all_turns, few_stand, of_id}
-use Rattle.r4_measure.proofs.r4_patch.Members.{Distinct, cases, distinct, here, later}
-use Rattle.r4_measure.proofs.r4_path.CellNodes.{units_are}
-use Rattle.r4_measure.proofs.r4_path.Rising.{hi_is, level_is, lo_is}
-use Rattle.r4_measure.proofs.r4_work.InPlace.{standing_is}
-use Rattle.r4_measure.specs.Budget.{Budget, most_from}
-use Rattle.r4_measure.specs.Loop.{AreReady, IsReady, LeafTurn, units_now}
-use Rattle.r4_measure.specs.Measured.{IsMeasured}
-use Rattle.r4_measure.specs.r4_cell.Patch.{HaveNames}
-use Rattle.r4_measure.specs.r4_cell.Seen.{CellSeen, node_of}
-use Rattle.r4_measure.specs.r4_cell.declared.change.Fresh.{Fresh}
-use Rattle.r4_measure.specs.r4_edit.Editing.{extra_cells}
-use Rattle.r4_measure.specs.r4_leaf.Remade.{AreWithin, CanPutAll, cut_all, put_all}
-use Rattle.r4_measure.specs.r4_leaf.Units.{LeafUnit, leaf_bytes}
-use Rattle.r4_measure.specs.r4_leaf.declared.remaking.Given.{Given}
-use Rattle.r4_measure.specs.r4_leaf.declared.remaking.KeyRange.{KeyRange}
-use Rattle.r4_measure.specs.r4_patch.Joining.{ids_of}
-use Rattle.r4_measure.specs.r4_reach.Needs.{is_met, units_after}
-use Rattle.r4_measure.specs.r4_work.Remaking.{CutsWithin}
-use Rattle.r4_measure.specs.r4_work.Working.{now_of, root_of, standing}
-use Rattle.r4_measure.specs.r4_work.declared.working.WorkingSet.{WorkingSet}
+use Rattle.r4_build.proofs.r4_measure.Loop.{all_turns, few_stand, of_id}
+use Rattle.r4_build.proofs.r4_measure.r4_patch.Members.{Distinct, cases, distinct, here, later}
+use Rattle.r4_build.proofs.r4_measure.r4_path.CellNodes.{units_are}
+use Rattle.r4_build.proofs.r4_measure.r4_path.Rising.{hi_is, level_is, lo_is}
+use Rattle.r4_build.proofs.r4_measure.r4_work.InPlace.{standing_is}
+use Rattle.r4_build.specs.r4_measure.Budget.{Budget, most_from}
+use Rattle.r4_build.specs.r4_measure.Loop.{AreReady, IsReady, LeafTurn, units_now}
+use Rattle.r4_build.specs.r4_measure.Measured.{IsMeasured}
+use Rattle.r4_build.specs.r4_measure.r4_cell.Patch.{HaveNames}
+use Rattle.r4_build.specs.r4_measure.r4_cell.Seen.{CellSeen, node_of}
+use Rattle.r4_build.specs.r4_measure.r4_cell.declared.change.Fresh.{Fresh}
+use Rattle.r4_build.specs.r4_measure.r4_edit.Editing.{extra_cells}
+use Rattle.r4_build.specs.r4_measure.r4_leaf.Remade.{AreWithin, CanPutAll, cut_all, put_all}
+use Rattle.r4_build.specs.r4_measure.r4_leaf.Units.{LeafUnit, leaf_bytes}
+use Rattle.r4_build.specs.r4_measure.r4_leaf.declared.remaking.Given.{Given}
+use Rattle.r4_build.specs.r4_measure.r4_leaf.declared.remaking.KeyRange.{KeyRange}
+use Rattle.r4_build.specs.r4_measure.r4_patch.Joining.{ids_of}
+use Rattle.r4_build.specs.r4_measure.r4_reach.Needs.{is_met, units_after}
+use Rattle.r4_build.specs.r4_measure.r4_work.Remaking.{CutsWithin}
+use Rattle.r4_build.specs.r4_measure.r4_work.Working.{now_of, root_of, standing}
+use Rattle.r4_build.specs.r4_measure.r4_work.declared.working.WorkingSet.{WorkingSet}
 use Rattle.r4_extent_change.specs.Wider.{GoesOn, IsWider}
 
 -- what lies in a range lies in a wider one

@@ -13,22 +13,22 @@ use Rattle.r4_extent_loss.proofs.LostPieces.{gone_high, gone_low}
 use Rattle.r4_extent_loss.proofs.r4_extent_edit.ExtentEffect.{is_on}
 use Rattle.r4_extent_loss.specs.Losing.{IsLeft, gone_from, gone_to, in_gone}
 use Rattle.r4_extent_loss.specs.LosingEach.{IsLossIn}
-use Rattle.r4_measure.proofs.r4_patch.Members.{cases, distinct, have_names, here, later, none}
-use Rattle.r4_measure.proofs.r4_patch.PartCells.{apart, parent, root_high}
-use Rattle.r4_measure.proofs.r4_path.Rising.{hi_is, in_node, level_is, lo_is}
-use Rattle.r4_measure.proofs.r4_work.InPlace.{now_part, standing_is}
-use Rattle.r4_measure.proofs.r4_work.UnitMembers.{between}
-use Rattle.r4_measure.specs.r4_cell.Patch.{HaveNames}
-use Rattle.r4_measure.specs.r4_cell.Seen.{CellSeen, node_of}
-use Rattle.r4_measure.specs.r4_cell.declared.change.Fresh.{Fresh}
-use Rattle.r4_measure.specs.r4_edit.Extents.{given_cells}
-use Rattle.r4_measure.specs.r4_patch.Part.{IsPart}
-use Rattle.r4_measure.specs.r4_path.Sharing.{IsSound}
-use Rattle.r4_measure.specs.r4_path.Steps.{IsNameOf, name_of}
-use Rattle.r4_measure.specs.r4_path.TwigPieces.{twig_pieces}
-use Rattle.r4_measure.specs.r4_reach.Touched.{Body}
-use Rattle.r4_measure.specs.r4_work.Working.{IsWorking, now_of, root_of, standing}
-use Rattle.r4_measure.specs.r4_work.declared.working.WorkingSet.{WorkingSet}
+use Rattle.r4_build.proofs.r4_measure.r4_patch.Members.{cases, distinct, have_names, here, later, none}
+use Rattle.r4_build.proofs.r4_measure.r4_patch.PartCells.{apart, parent, root_high}
+use Rattle.r4_build.proofs.r4_measure.r4_path.Rising.{hi_is, in_node, level_is, lo_is}
+use Rattle.r4_build.proofs.r4_measure.r4_work.InPlace.{now_part, standing_is}
+use Rattle.r4_build.proofs.r4_measure.r4_work.UnitMembers.{between}
+use Rattle.r4_build.specs.r4_measure.r4_cell.Patch.{HaveNames}
+use Rattle.r4_build.specs.r4_measure.r4_cell.Seen.{CellSeen, node_of}
+use Rattle.r4_build.specs.r4_measure.r4_cell.declared.change.Fresh.{Fresh}
+use Rattle.r4_build.specs.r4_measure.r4_edit.Extents.{given_cells}
+use Rattle.r4_build.specs.r4_measure.r4_patch.Part.{IsPart}
+use Rattle.r4_build.specs.r4_measure.r4_path.Sharing.{IsSound}
+use Rattle.r4_build.specs.r4_measure.r4_path.Steps.{IsNameOf, name_of}
+use Rattle.r4_build.specs.r4_measure.r4_path.TwigPieces.{twig_pieces}
+use Rattle.r4_build.specs.r4_measure.r4_reach.Touched.{Body}
+use Rattle.r4_build.specs.r4_measure.r4_work.Working.{IsWorking, now_of, root_of, standing}
+use Rattle.r4_build.specs.r4_measure.r4_work.declared.working.WorkingSet.{WorkingSet}
 use Rattle.r4_extent_change.specs.Among.{is_block_of, is_left_of, is_losing, left_among, loss_among, losing_twigs}
 use Rattle.r4_extent_change.specs.Losing.{HasLoss}
 use Rattle.r4_extent_change.proofs.Chosen.{kept_in, picked, picked_apart}

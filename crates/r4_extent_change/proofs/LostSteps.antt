@@ -4,17 +4,17 @@ use Rattle.r4_base.specs.Tree.{Root, Store}
 use Rattle.r4_base.specs.Value.{Value}
 use Rattle.r4_build.specs.Making.{AreMadeIn, CanMake, IsOf}
 use Rattle.r4_content.specs.Edited.{Edits}
-use Rattle.r4_extent_build.specs.Looping.{AreTurned, behind_all}
+use Rattle.r4_extent_loss.specs.r4_extent_build.Looping.{AreTurned, behind_all}
 use Rattle.r4_extent_loss.specs.Losing.{Loss}
 use Rattle.r4_extent_loss.specs.LosingEach.{CanLoseAll, losing_turns}
-use Rattle.r4_measure.specs.Budget.{Budget}
-use Rattle.r4_measure.specs.r4_cell.Seen.{CellSeen}
-use Rattle.r4_measure.specs.r4_cell.declared.change.Fresh.{Fresh}
-use Rattle.r4_measure.specs.r4_patch.Effect.{HasEffect}
-use Rattle.r4_measure.specs.r4_patch.Joining.{patch_of_change}
-use Rattle.r4_measure.specs.r4_reach.Touched.{Body}
-use Rattle.r4_measure.specs.r4_work.Working.{HasNoEffect, IsStart}
-use Rattle.r4_measure.specs.r4_work.declared.working.WorkingSet.{WorkingSet}
+use Rattle.r4_build.specs.r4_measure.Budget.{Budget}
+use Rattle.r4_build.specs.r4_measure.r4_cell.Seen.{CellSeen}
+use Rattle.r4_build.specs.r4_measure.r4_cell.declared.change.Fresh.{Fresh}
+use Rattle.r4_build.specs.r4_measure.r4_patch.Effect.{HasEffect}
+use Rattle.r4_build.specs.r4_measure.r4_patch.Joining.{patch_of_change}
+use Rattle.r4_build.specs.r4_measure.r4_reach.Touched.{Body}
+use Rattle.r4_build.specs.r4_measure.r4_work.Working.{HasNoEffect, IsStart}
+use Rattle.r4_build.specs.r4_measure.r4_work.declared.working.WorkingSet.{WorkingSet}
 use Rattle.r4_extent_change.specs.Among.{losses_among}
 use Rattle.r4_extent_change.specs.Beside.{without_bytes}
 use Rattle.r4_extent_change.specs.Losing.{CanLose, lost_keys, lost_values, most_lost}

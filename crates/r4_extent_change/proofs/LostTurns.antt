@@ -10,8 +10,8 @@ use Rattle.r4_base.specs.Value.{Value}
 use Rattle.r4_base.specs.declared.key.Key.{Key}
 use Rattle.r4_build.specs.Making.{IsOf}
 use Rattle.r4_content.specs.Edited.{Edits}
-use Rattle.r4_extent_build.specs.Looping.{AreTurned, behind_all}
-use Rattle.r4_extent_build.specs.r4_twig_turns.Turning.{TwigTurn}
+use Rattle.r4_extent_loss.specs.r4_extent_build.Looping.{AreTurned, behind_all}
+use Rattle.r4_extent_loss.specs.r4_extent_build.r4_twig_turns.Turning.{TwigTurn}
 use Rattle.r4_extent_loss.proofs.AllReady.{ready, twigs}
 use Rattle.r4_extent_counts.specs.Coming.{leaf_taking_up}
 use Rattle.r4_extent_loss.proofs.InParts.{loss_of_part}
@@ -20,16 +20,16 @@ use Rattle.r4_extent_loss.proofs.LossCounts.{leaves_are}
 use Rattle.r4_extent_loss.proofs.Taken.{is_taken}
 use Rattle.r4_extent_loss.specs.Losing.{IsLeft, IsLosing, IsLossOf, Loss, leaf_at, losing_turn, numbers_taken, taken_block, taken_from, taken_id}
 use Rattle.r4_extent_loss.specs.LosingEach.{MayGo, losing_turns}
-use Rattle.r4_measure.proofs.r4_patch.Members.{cases, here, later, none}
-use Rattle.r4_measure.specs.Budget.{Budget}
-use Rattle.r4_measure.specs.r4_cell.Seen.{CellSeen, node_of}
-use Rattle.r4_measure.specs.r4_cell.declared.change.Fresh.{Fresh}
-use Rattle.r4_measure.specs.r4_edit.Extents.{given_cells}
-use Rattle.r4_measure.specs.r4_patch.Joining.{ids_of}
-use Rattle.r4_measure.specs.r4_path.Steps.{name_of}
-use Rattle.r4_measure.specs.r4_reach.Needs.{pieces_after}
-use Rattle.r4_measure.specs.r4_reach.Touched.{Body}
-use Rattle.r4_measure.specs.r4_work.declared.working.WorkingSet.{WorkingSet}
+use Rattle.r4_build.proofs.r4_measure.r4_patch.Members.{cases, here, later, none}
+use Rattle.r4_build.specs.r4_measure.Budget.{Budget}
+use Rattle.r4_build.specs.r4_measure.r4_cell.Seen.{CellSeen, node_of}
+use Rattle.r4_build.specs.r4_measure.r4_cell.declared.change.Fresh.{Fresh}
+use Rattle.r4_build.specs.r4_measure.r4_edit.Extents.{given_cells}
+use Rattle.r4_build.specs.r4_measure.r4_patch.Joining.{ids_of}
+use Rattle.r4_build.specs.r4_measure.r4_path.Steps.{name_of}
+use Rattle.r4_build.specs.r4_measure.r4_reach.Needs.{pieces_after}
+use Rattle.r4_build.specs.r4_measure.r4_reach.Touched.{Body}
+use Rattle.r4_build.specs.r4_measure.r4_work.declared.working.WorkingSet.{WorkingSet}
 use Rattle.r4_extent_change.specs.Losing.{LeavesWider, leaves_coming}
 use Rattle.r4_extent_change.specs.Wider.{IsWider}
 use Rattle.r4_extent_change.proofs.AllTurned.{AreDone, IsMild, all_done, coming}

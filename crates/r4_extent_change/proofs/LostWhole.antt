@@ -9,26 +9,26 @@ use Rattle.r4_build.proofs.Made.{all_keys, few_new, start_of}
 use Rattle.r4_build.specs.Building.{set_by}
 use Rattle.r4_build.specs.Making.{AreMadeIn, CanMake, IsOf, MakeAtMost, changed_among}
 use Rattle.r4_content.specs.Edited.{Edits, changed, is_in}
-use Rattle.r4_extent_build.specs.Looping.{AreTurned, behind_all}
+use Rattle.r4_extent_loss.specs.r4_extent_build.Looping.{AreTurned, behind_all}
 use Rattle.r4_extent_loss.proofs.AllLost.{all_lost}
 use Rattle.r4_extent_loss.proofs.AllReady.{may_lose}
 use Rattle.r4_extent_loss.specs.Losing.{Loss, in_gone, no_value}
 use Rattle.r4_extent_loss.specs.LosingEach.{CanLoseAll, IsLossIn, MayGo, gone_of_each, losing_turns}
-use Rattle.r4_measure.proofs.r4_patch.Members.{cases, distinct, have_names, here, later, none}
-use Rattle.r4_measure.specs.Budget.{Budget}
-use Rattle.r4_measure.specs.Measured.{IsMeasured}
-use Rattle.r4_measure.specs.r4_cell.Patch.{HaveNames}
-use Rattle.r4_measure.specs.r4_cell.Seen.{CellSeen, node_of}
-use Rattle.r4_measure.specs.r4_cell.declared.change.Fresh.{Fresh}
-use Rattle.r4_measure.specs.r4_patch.Effect.{HasEffect, Placed, either, later as value_later}
-use Rattle.r4_measure.specs.r4_patch.Joining.{patch_of_change}
-use Rattle.r4_measure.specs.r4_path.Grafts.{extra_twigs}
-use Rattle.r4_measure.specs.r4_path.Steps.{OnlyTakes}
-use Rattle.r4_measure.specs.r4_reach.Needs.{pieces_after}
-use Rattle.r4_measure.specs.r4_reach.Touched.{Body}
-use Rattle.r4_measure.specs.r4_work.Remaking.{Changes}
-use Rattle.r4_measure.specs.r4_work.Working.{HasNoEffect, IsStart, standing}
-use Rattle.r4_measure.specs.r4_work.declared.working.WorkingSet.{WorkingSet}
+use Rattle.r4_build.proofs.r4_measure.r4_patch.Members.{cases, distinct, have_names, here, later, none}
+use Rattle.r4_build.specs.r4_measure.Budget.{Budget}
+use Rattle.r4_build.specs.r4_measure.Measured.{IsMeasured}
+use Rattle.r4_build.specs.r4_measure.r4_cell.Patch.{HaveNames}
+use Rattle.r4_build.specs.r4_measure.r4_cell.Seen.{CellSeen, node_of}
+use Rattle.r4_build.specs.r4_measure.r4_cell.declared.change.Fresh.{Fresh}
+use Rattle.r4_build.specs.r4_measure.r4_patch.Effect.{HasEffect, Placed, either, later as value_later}
+use Rattle.r4_build.specs.r4_measure.r4_patch.Joining.{patch_of_change}
+use Rattle.r4_build.specs.r4_measure.r4_path.Grafts.{extra_twigs}
+use Rattle.r4_build.specs.r4_measure.r4_path.Steps.{OnlyTakes}
+use Rattle.r4_build.specs.r4_measure.r4_reach.Needs.{pieces_after}
+use Rattle.r4_build.specs.r4_measure.r4_reach.Touched.{Body}
+use Rattle.r4_build.specs.r4_measure.r4_work.Remaking.{Changes}
+use Rattle.r4_build.specs.r4_measure.r4_work.Working.{HasNoEffect, IsStart, standing}
+use Rattle.r4_build.specs.r4_measure.r4_work.declared.working.WorkingSet.{WorkingSet}
 use Rattle.r4_extent_change.specs.Among.{is_losing, loss_among, losing_twigs, losses_among}
 use Rattle.r4_extent_change.specs.Beside.{without_bytes}
 use Rattle.r4_extent_change.specs.Losing.{CanLose, LeavesWider, leaves_coming, lost_keys, lost_values, most_lost}

@@ -9,7 +9,7 @@ use Rattle.r4_content.specs.Held.{fill_pairs, run_pairs}
 use Rattle.r4_content.specs.Objects.{byte_pairs}
 use Rattle.r4_content.specs.declared.edits.ByteRun.{ByteRun}
 use Rattle.r4_content.specs.declared.edits.FilledInterval.{FilledInterval}
-use Rattle.r4_leaf_edits.specs.Suiting.{AreOnce, IsBefore, IsLawfulPut, SuitLeaves, bytes_set, is_byte}
+use Rattle.r4_build.specs.r4_leaf_edits.Suiting.{AreOnce, IsBefore, IsLawfulPut, SuitLeaves, bytes_set, is_byte}
 use Rattle.r4_base.specs.Value.{Value}
 use Rattle.r4_extent_change.specs.Beside.{without_bytes}
 

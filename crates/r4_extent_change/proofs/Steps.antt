@@ -5,20 +5,20 @@ use Rattle.r4_base.specs.Value.{Value}
 use Rattle.r4_build.proofs.Made.{few_new}
 use Rattle.r4_build.specs.Making.{AreMadeIn, CanMake, IsOf}
 use Rattle.r4_content.specs.Edited.{Edits}
-use Rattle.r4_extent_build.specs.Looping.{AreKeysOfEach, AreTurned, CanTurnAll, behind_all, turns_of}
+use Rattle.r4_extent_loss.specs.r4_extent_build.Looping.{AreKeysOfEach, AreTurned, CanTurnAll, behind_all, turns_of}
 use Rattle.r4_extent_renew.specs.Overwriting.{AreOverwritten, AreSetAmong, AreStandingCells, StaysMeasured, blocks_among, bytes_set, is_set_in}
-use Rattle.r4_measure.specs.Budget.{Budget}
-use Rattle.r4_measure.specs.Measured.{IsMeasured}
-use Rattle.r4_measure.specs.r4_cell.Seen.{CellSeen}
-use Rattle.r4_measure.specs.r4_cell.declared.change.Fresh.{Fresh}
-use Rattle.r4_measure.specs.r4_patch.Effect.{HasEffect}
-use Rattle.r4_measure.specs.r4_patch.Joining.{patch_of_change}
-use Rattle.r4_measure.specs.r4_path.Steps.{OnlyTakes}
-use Rattle.r4_measure.specs.r4_reach.Touched.{Body}
-use Rattle.r4_measure.specs.r4_work.Remaking.{Changes}
-use Rattle.r4_measure.specs.r4_work.Working.{HasNoEffect, IsStart}
-use Rattle.r4_measure.specs.r4_work.declared.working.WorkingSet.{WorkingSet}
-use Rattle.r4_extent_build.specs.r4_twig_turns.r4_twig_work.Renewing.{IsRenewed, StandAsBefore}
+use Rattle.r4_build.specs.r4_measure.Budget.{Budget}
+use Rattle.r4_build.specs.r4_measure.Measured.{IsMeasured}
+use Rattle.r4_build.specs.r4_measure.r4_cell.Seen.{CellSeen}
+use Rattle.r4_build.specs.r4_measure.r4_cell.declared.change.Fresh.{Fresh}
+use Rattle.r4_build.specs.r4_measure.r4_patch.Effect.{HasEffect}
+use Rattle.r4_build.specs.r4_measure.r4_patch.Joining.{patch_of_change}
+use Rattle.r4_build.specs.r4_measure.r4_path.Steps.{OnlyTakes}
+use Rattle.r4_build.specs.r4_measure.r4_reach.Touched.{Body}
+use Rattle.r4_build.specs.r4_measure.r4_work.Remaking.{Changes}
+use Rattle.r4_build.specs.r4_measure.r4_work.Working.{HasNoEffect, IsStart}
+use Rattle.r4_build.specs.r4_measure.r4_work.declared.working.WorkingSet.{WorkingSet}
+use Rattle.r4_extent_loss.specs.r4_extent_build.r4_twig_turns.r4_twig_work.Renewing.{IsRenewed, StandAsBefore}
 use Rattle.r4_extent_change.specs.Beside.{turning_among, without_bytes}
 use Rattle.r4_extent_change.specs.Changing.{CanGrow, grown_keys, grown_values, most_grown}
 use Rattle.r4_extent_change.proofs.AllTurned.{left_over}

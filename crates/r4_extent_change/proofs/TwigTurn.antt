@@ -9,24 +9,24 @@ use Rattle.r4_base.specs.Tree.{Node, Root, Store}
 use Rattle.r4_base.specs.Value.{Value}
 use Rattle.r4_base.proofs.Trees.{one_cell}
 use Rattle.r4_build.specs.Making.{IsOf}
-use Rattle.r4_extent_build.proofs.r4_twig_turns.TurnByTurn.{at_twig, new_are, new_id, next_working, old_at, olds_stand, ours}
-use Rattle.r4_extent_build.specs.r4_twig_turns.Turning.{IsReady, IsTurned, TwigTurn, behind}
-use Rattle.r4_measure.proofs.Kept.{block_is}
-use Rattle.r4_measure.proofs.Loop.{of_id}
-use Rattle.r4_measure.proofs.Placed.{still_in}
-use Rattle.r4_measure.proofs.r4_patch.Followed.{among_cell, among_or_not, cell_among, in_without, to_without}
-use Rattle.r4_measure.proofs.r4_patch.Members.{absent}
-use Rattle.r4_measure.proofs.r4_path.Rising.{hi_is, id_member, level_is, lo_is}
-use Rattle.r4_measure.proofs.r4_work.InPlace.{standing_is}
-use Rattle.r4_measure.specs.Budget.{Budget}
-use Rattle.r4_measure.specs.Grafting.{Beside, IsQuietBelow}
-use Rattle.r4_measure.specs.Measured.{IsMeasured}
-use Rattle.r4_measure.specs.r4_cell.Seen.{CellSeen, node_of}
-use Rattle.r4_measure.specs.r4_cell.declared.change.Fresh.{Fresh}
-use Rattle.r4_measure.specs.r4_patch.Following.{is_among, without}
-use Rattle.r4_measure.specs.r4_patch.Joining.{ids_of}
-use Rattle.r4_measure.specs.r4_work.Working.{IsWorking, now_of, standing}
-use Rattle.r4_measure.specs.r4_work.declared.working.WorkingSet.{WorkingSet}
+use Rattle.r4_extent_loss.proofs.r4_extent_build.r4_twig_turns.TurnByTurn.{at_twig, new_are, new_id, next_working, old_at, olds_stand, ours}
+use Rattle.r4_extent_loss.specs.r4_extent_build.r4_twig_turns.Turning.{IsReady, IsTurned, TwigTurn, behind}
+use Rattle.r4_build.proofs.r4_measure.Kept.{block_is}
+use Rattle.r4_build.proofs.r4_measure.Loop.{of_id}
+use Rattle.r4_build.proofs.r4_measure.Placed.{still_in}
+use Rattle.r4_build.proofs.r4_measure.r4_patch.Followed.{among_cell, among_or_not, cell_among, in_without, to_without}
+use Rattle.r4_build.proofs.r4_measure.r4_patch.Members.{absent}
+use Rattle.r4_build.proofs.r4_measure.r4_path.Rising.{hi_is, id_member, level_is, lo_is}
+use Rattle.r4_build.proofs.r4_measure.r4_work.InPlace.{standing_is}
+use Rattle.r4_build.specs.r4_measure.Budget.{Budget}
+use Rattle.r4_build.specs.r4_measure.Grafting.{Beside, IsQuietBelow}
+use Rattle.r4_build.specs.r4_measure.Measured.{IsMeasured}
+use Rattle.r4_build.specs.r4_measure.r4_cell.Seen.{CellSeen, node_of}
+use Rattle.r4_build.specs.r4_measure.r4_cell.declared.change.Fresh.{Fresh}
+use Rattle.r4_build.specs.r4_measure.r4_patch.Following.{is_among, without}
+use Rattle.r4_build.specs.r4_measure.r4_patch.Joining.{ids_of}
+use Rattle.r4_build.specs.r4_measure.r4_work.Working.{IsWorking, now_of, standing}
+use Rattle.r4_build.specs.r4_measure.r4_work.declared.working.WorkingSet.{WorkingSet}
 use Rattle.r4_extent_change.specs.Wider.{GoesOn, IsWider}
 
 ids_append : (xs ys : List CellSeen) → ids_of (xs ++ ys) ≡ ids_of xs ++ ids_of ys

@@ -6,21 +6,21 @@ use Rattle.r4_base.specs.Tree.{Root, Store}
 use Rattle.r4_base.specs.Value.{Value}
 use Rattle.r4_build.specs.Making.{CanMake, IsOf, MakeAtMost}
 use Rattle.r4_content.specs.Edited.{Edits}
-use Rattle.r4_extent_build.proofs.AllTurns.{all_set}
-use Rattle.r4_extent_build.specs.Looping.{AreKeysOfEach, AreTurned, CanTurnAll, behind_all, keys_of_each, turns_of}
-use Rattle.r4_extent_build.specs.Setting.{bytes_after}
+use Rattle.r4_extent_loss.proofs.r4_extent_build.AllTurns.{all_set}
+use Rattle.r4_extent_loss.specs.r4_extent_build.Looping.{AreKeysOfEach, AreTurned, CanTurnAll, behind_all, keys_of_each, turns_of}
+use Rattle.r4_extent_loss.specs.r4_extent_build.Setting.{bytes_after}
 use Rattle.r4_extent_renew.specs.Overwriting.{AreSetAmong, AreStandingCells, StaysMeasured}
-use Rattle.r4_measure.proofs.r4_patch.Members.{distinct, have_names}
-use Rattle.r4_measure.specs.Budget.{Budget}
-use Rattle.r4_measure.specs.Measured.{IsMeasured}
-use Rattle.r4_measure.specs.r4_cell.Seen.{CellSeen, node_of}
-use Rattle.r4_measure.specs.r4_cell.declared.change.Fresh.{Fresh}
-use Rattle.r4_measure.specs.r4_reach.Needs.{changes_pieces}
-use Rattle.r4_measure.specs.r4_reach.Touched.{Body}
-use Rattle.r4_measure.specs.r4_work.Remaking.{Changes}
-use Rattle.r4_measure.specs.r4_work.Working.{IsStart, standing}
-use Rattle.r4_measure.specs.r4_work.declared.working.WorkingSet.{WorkingSet}
-use Rattle.r4_extent_build.specs.r4_twig_turns.r4_twig_work.Renewing.{IsRenewed, StandAsBefore}
+use Rattle.r4_build.proofs.r4_measure.r4_patch.Members.{distinct, have_names}
+use Rattle.r4_build.specs.r4_measure.Budget.{Budget}
+use Rattle.r4_build.specs.r4_measure.Measured.{IsMeasured}
+use Rattle.r4_build.specs.r4_measure.r4_cell.Seen.{CellSeen, node_of}
+use Rattle.r4_build.specs.r4_measure.r4_cell.declared.change.Fresh.{Fresh}
+use Rattle.r4_build.specs.r4_measure.r4_reach.Needs.{changes_pieces}
+use Rattle.r4_build.specs.r4_measure.r4_reach.Touched.{Body}
+use Rattle.r4_build.specs.r4_measure.r4_work.Remaking.{Changes}
+use Rattle.r4_build.specs.r4_measure.r4_work.Working.{IsStart, standing}
+use Rattle.r4_build.specs.r4_measure.r4_work.declared.working.WorkingSet.{WorkingSet}
+use Rattle.r4_extent_loss.specs.r4_extent_build.r4_twig_turns.r4_twig_work.Renewing.{IsRenewed, StandAsBefore}
 use Rattle.r4_extent_change.specs.Beside.{is_turning, turning_among, without_bytes}
 use Rattle.r4_extent_change.specs.Changing.{CanGrow, most_grown}
 use Rattle.r4_extent_change.specs.Turned.{LeavesLeaves, MayTurnAll}

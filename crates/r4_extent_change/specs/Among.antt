@@ -4,11 +4,11 @@ use Rattle.std.specs.Prelude.{◌≡◌, ◌<◌, ◌≤◌, ◌==◌, ◌&&◌,
 use Rattle.std.specs.Prelude.{Option, None, Some, if◌then◌else◌}
 use Rattle.std.specs.List.{filter, list_any}
 use Rattle.r4_base.specs.Key.{rank}
-use Rattle.r4_extent_build.specs.Growing.{end_after, end_before}
+use Rattle.r4_extent_loss.specs.r4_extent_build.Growing.{end_after, end_before}
 use Rattle.r4_extent_loss.specs.Losing.{Loss, gone_from, gone_to, in_gone}
-use Rattle.r4_measure.specs.r4_cell.Seen.{CellSeen}
-use Rattle.r4_measure.specs.r4_reach.Touched.{Body}
-use Rattle.r4_measure.specs.r4_work.Order.{HasKey}
+use Rattle.r4_build.specs.r4_measure.r4_cell.Seen.{CellSeen}
+use Rattle.r4_build.specs.r4_measure.r4_reach.Touched.{Body}
+use Rattle.r4_build.specs.r4_measure.r4_work.Order.{HasKey}
 
 -- the cell is a twig, and keys of its range go
 abbrev pub is_losing : Body → CellSeen → Bool

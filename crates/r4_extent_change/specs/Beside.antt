@@ -3,11 +3,11 @@
 use Rattle.std.specs.Prelude.{[], List, Bool, not, ◌==◌, ◌&&◌, Some}
 use Rattle.std.specs.List.{filter}
 use Rattle.r4_content.specs.Edited.{Edits}
-use Rattle.r4_leaf_edits.specs.Suiting.{is_byte}
-use Rattle.r4_measure.specs.r4_cell.Seen.{CellSeen, node_of}
-use Rattle.r4_measure.specs.r4_reach.Needs.{changes_pieces}
-use Rattle.r4_measure.specs.r4_reach.Reach.{is_body}
-use Rattle.r4_measure.specs.r4_reach.Touched.{Body}
+use Rattle.r4_build.specs.r4_leaf_edits.Suiting.{is_byte}
+use Rattle.r4_build.specs.r4_measure.r4_cell.Seen.{CellSeen, node_of}
+use Rattle.r4_build.specs.r4_measure.r4_reach.Needs.{changes_pieces}
+use Rattle.r4_build.specs.r4_measure.r4_reach.Reach.{is_body}
+use Rattle.r4_build.specs.r4_measure.r4_reach.Touched.{Body}
 
 -- the edits that put no byte, and take none of a body: those that lie in leaves, where the body stands in extents
 abbrev pub without_bytes : Edits → Edits

@@ -8,21 +8,21 @@ use Rattle.r4_base.specs.Value.{Value}
 use Rattle.r4_base.specs.declared.key.Key.{Key}
 use Rattle.r4_build.specs.Building.{LiesInLeaf, set_by}
 use Rattle.r4_content.specs.Edited.{Edits, changed, is_in}
-use Rattle.r4_extent_build.specs.Growing.{IsGrowing}
-use Rattle.r4_extent_build.specs.Looping.{keys_of_each, turns_of}
-use Rattle.r4_extent_build.specs.Setting.{bytes_after}
-use Rattle.r4_extent_build.specs.r4_twig_turns.Turning.{numbers_for}
+use Rattle.r4_extent_loss.specs.r4_extent_build.Growing.{IsGrowing}
+use Rattle.r4_extent_loss.specs.r4_extent_build.Looping.{keys_of_each, turns_of}
+use Rattle.r4_extent_loss.specs.r4_extent_build.Setting.{bytes_after}
+use Rattle.r4_extent_loss.specs.r4_extent_build.r4_twig_turns.Turning.{numbers_for}
 use Rattle.r4_extent_renew.specs.Overwriting.{blocks_among, is_set_in}
-use Rattle.r4_measure.specs.Budget.{AreSeen, AreUnplaced, Budget, IsBudget, most_from}
-use Rattle.r4_measure.specs.Grafting.{IsQuietBelow}
-use Rattle.r4_measure.specs.r4_cell.Patch.{HaveNames}
-use Rattle.r4_measure.specs.r4_cell.Seen.{CellSeen, node_of}
-use Rattle.r4_measure.specs.r4_cell.declared.change.Fresh.{Fresh}
-use Rattle.r4_measure.specs.r4_leaf.Units.{leaf_bytes}
-use Rattle.r4_measure.specs.r4_patch.Effect.{Placed}
-use Rattle.r4_measure.specs.r4_reach.Needs.{is_met, units_after}
-use Rattle.r4_measure.specs.r4_reach.Touched.{Body}
-use Rattle.r4_measure.specs.r4_work.Working.{AreCellsIn}
+use Rattle.r4_build.specs.r4_measure.Budget.{AreSeen, AreUnplaced, Budget, IsBudget, most_from}
+use Rattle.r4_build.specs.r4_measure.Grafting.{IsQuietBelow}
+use Rattle.r4_build.specs.r4_measure.r4_cell.Patch.{HaveNames}
+use Rattle.r4_build.specs.r4_measure.r4_cell.Seen.{CellSeen, node_of}
+use Rattle.r4_build.specs.r4_measure.r4_cell.declared.change.Fresh.{Fresh}
+use Rattle.r4_build.specs.r4_measure.r4_leaf.Units.{leaf_bytes}
+use Rattle.r4_build.specs.r4_measure.r4_patch.Effect.{Placed}
+use Rattle.r4_build.specs.r4_measure.r4_reach.Needs.{is_met, units_after}
+use Rattle.r4_build.specs.r4_measure.r4_reach.Touched.{Body}
+use Rattle.r4_build.specs.r4_measure.r4_work.Working.{AreCellsIn}
 use Rattle.r4_extent_change.specs.Beside.{turning_among, without_bytes}
 use Rattle.r4_extent_change.specs.Turned.{MayTurn, blocks_coming}
 

@@ -9,30 +9,30 @@ use Rattle.r4_base.specs.Value.{Value}
 use Rattle.r4_base.specs.declared.key.Key.{Key}
 use Rattle.r4_build.specs.Building.{LiesInLeaf, set_by}
 use Rattle.r4_content.specs.Edited.{Edits, changed, is_in}
-use Rattle.r4_extent_build.specs.Looping.{behind_all}
-use Rattle.r4_extent_build.specs.r4_twig_turns.Turning.{numbers_for}
+use Rattle.r4_extent_loss.specs.r4_extent_build.Looping.{behind_all}
+use Rattle.r4_extent_loss.specs.r4_extent_build.r4_twig_turns.Turning.{numbers_for}
 use Rattle.r4_extent_counts.specs.Coming.{leaf_taking_up}
 use Rattle.r4_extent_loss.specs.Losing.{IsLosing, Loss, gone_from, gone_to, in_gone}
 use Rattle.r4_extent_loss.specs.LosingEach.{losing_turns}
-use Rattle.r4_measure.specs.Budget.{AreUnplaced, Budget, most_from}
-use Rattle.r4_measure.specs.Grafting.{IsQuietBelow}
-use Rattle.r4_measure.specs.Measured.{IsMeasured}
-use Rattle.r4_measure.specs.r4_cell.Patch.{HaveNames}
-use Rattle.r4_measure.specs.r4_cell.Seen.{CellSeen, node_of}
-use Rattle.r4_measure.specs.r4_cell.declared.change.Fresh.{Fresh}
-use Rattle.r4_measure.specs.r4_branch.Pieces.{piece_end}
-use Rattle.r4_measure.specs.r4_branch.declared.piece.TwigPiece.{TwigPiece}
-use Rattle.r4_measure.specs.r4_path.r4_graft.Splices.{IsBorder}
-use Rattle.r4_measure.specs.r4_leaf.Units.{leaf_bytes}
-use Rattle.r4_measure.specs.r4_patch.Effect.{Placed}
-use Rattle.r4_measure.specs.r4_path.Grafts.{extra_twigs}
-use Rattle.r4_measure.specs.r4_path.Sharing.{IsSound}
-use Rattle.r4_measure.specs.r4_path.Steps.{IsNameOf}
-use Rattle.r4_measure.specs.r4_path.TwigPieces.{ArePiecesOf, twig_pieces}
-use Rattle.r4_measure.specs.r4_reach.Needs.{is_met, pieces_after, units_after}
-use Rattle.r4_measure.specs.r4_reach.Touched.{Body}
-use Rattle.r4_measure.specs.r4_work.Working.{AreCellsIn, root_of, standing}
-use Rattle.r4_measure.specs.r4_work.declared.working.WorkingSet.{WorkingSet}
+use Rattle.r4_build.specs.r4_measure.Budget.{AreUnplaced, Budget, most_from}
+use Rattle.r4_build.specs.r4_measure.Grafting.{IsQuietBelow}
+use Rattle.r4_build.specs.r4_measure.Measured.{IsMeasured}
+use Rattle.r4_build.specs.r4_measure.r4_cell.Patch.{HaveNames}
+use Rattle.r4_build.specs.r4_measure.r4_cell.Seen.{CellSeen, node_of}
+use Rattle.r4_build.specs.r4_measure.r4_cell.declared.change.Fresh.{Fresh}
+use Rattle.r4_build.specs.r4_measure.r4_branch.Pieces.{piece_end}
+use Rattle.r4_build.specs.r4_measure.r4_branch.declared.piece.TwigPiece.{TwigPiece}
+use Rattle.r4_build.specs.r4_measure.r4_path.r4_graft.Splices.{IsBorder}
+use Rattle.r4_build.specs.r4_measure.r4_leaf.Units.{leaf_bytes}
+use Rattle.r4_build.specs.r4_measure.r4_patch.Effect.{Placed}
+use Rattle.r4_build.specs.r4_measure.r4_path.Grafts.{extra_twigs}
+use Rattle.r4_build.specs.r4_measure.r4_path.Sharing.{IsSound}
+use Rattle.r4_build.specs.r4_measure.r4_path.Steps.{IsNameOf}
+use Rattle.r4_build.specs.r4_measure.r4_path.TwigPieces.{ArePiecesOf, twig_pieces}
+use Rattle.r4_build.specs.r4_measure.r4_reach.Needs.{is_met, pieces_after, units_after}
+use Rattle.r4_build.specs.r4_measure.r4_reach.Touched.{Body}
+use Rattle.r4_build.specs.r4_measure.r4_work.Working.{AreCellsIn, root_of, standing}
+use Rattle.r4_build.specs.r4_measure.r4_work.declared.working.WorkingSet.{WorkingSet}
 use Rattle.r4_extent_change.specs.Among.{gone_among, losing_twigs, losses_among}
 use Rattle.r4_extent_change.specs.Beside.{without_bytes}
 use Rattle.r4_extent_change.specs.Changing.{AreMeasured}

@@ -3,22 +3,22 @@ use Rattle.std.specs.Prelude.{◌≡◌, ℕ, ◌+◌, ◌≤◌, List, [], Cont
 use Rattle.r4_base.specs.Tree.{Root, Store}
 use Rattle.r4_base.specs.Value.{Value}
 use Rattle.r4_content.specs.Edited.{Edits}
-use Rattle.r4_measure.specs.Budget.{AreUnplaced, Budget, most_from}
-use Rattle.r4_measure.specs.Grafting.{IsQuietBelow}
-use Rattle.r4_measure.specs.Measured.{IsMeasured}
-use Rattle.r4_measure.specs.r4_branch.Pieces.{twig_bytes}
-use Rattle.r4_measure.specs.r4_cell.Patch.{HaveNames}
-use Rattle.r4_measure.specs.r4_cell.Seen.{CellSeen, node_of}
-use Rattle.r4_measure.specs.r4_cell.declared.change.Fresh.{Fresh}
-use Rattle.r4_measure.specs.r4_path.Grafts.{extra_twigs}
-use Rattle.r4_measure.specs.r4_reach.Needs.{pieces_after}
-use Rattle.r4_measure.specs.r4_reach.Touched.{Body}
-use Rattle.r4_measure.specs.r4_work.Working.{root_of, standing}
-use Rattle.r4_measure.specs.r4_work.declared.working.WorkingSet.{WorkingSet}
-use Rattle.r4_extent_build.specs.Growing.{IsClearFor}
-use Rattle.r4_extent_build.specs.Looping.{IsTwigFor, behind_all, turns_of}
-use Rattle.r4_extent_build.specs.Turns.{growing_turn}
-use Rattle.r4_extent_build.specs.r4_twig_turns.Turning.{numbers_for}
+use Rattle.r4_build.specs.r4_measure.Budget.{AreUnplaced, Budget, most_from}
+use Rattle.r4_build.specs.r4_measure.Grafting.{IsQuietBelow}
+use Rattle.r4_build.specs.r4_measure.Measured.{IsMeasured}
+use Rattle.r4_build.specs.r4_measure.r4_branch.Pieces.{twig_bytes}
+use Rattle.r4_build.specs.r4_measure.r4_cell.Patch.{HaveNames}
+use Rattle.r4_build.specs.r4_measure.r4_cell.Seen.{CellSeen, node_of}
+use Rattle.r4_build.specs.r4_measure.r4_cell.declared.change.Fresh.{Fresh}
+use Rattle.r4_build.specs.r4_measure.r4_path.Grafts.{extra_twigs}
+use Rattle.r4_build.specs.r4_measure.r4_reach.Needs.{pieces_after}
+use Rattle.r4_build.specs.r4_measure.r4_reach.Touched.{Body}
+use Rattle.r4_build.specs.r4_measure.r4_work.Working.{root_of, standing}
+use Rattle.r4_build.specs.r4_measure.r4_work.declared.working.WorkingSet.{WorkingSet}
+use Rattle.r4_extent_loss.specs.r4_extent_build.Growing.{IsClearFor}
+use Rattle.r4_extent_loss.specs.r4_extent_build.Looping.{IsTwigFor, behind_all, turns_of}
+use Rattle.r4_extent_loss.specs.r4_extent_build.Turns.{growing_turn}
+use Rattle.r4_extent_loss.specs.r4_extent_build.r4_twig_turns.Turning.{numbers_for}
 
 -- Nothing stands in the twig where blocks of the body come; its pieces need no more than 16000 bytes afterwards, and
 -- what comes beside it is in the budget.

@@ -1,9 +1,9 @@
 -- Leaves that go on with a range that reaches further (docs/volume.md, "Bodies in extents"). A key is its rank.
 use Rattle.std.specs.Prelude.{◌≡◌, ◌≤◌, Contains}
 use Rattle.r4_base.specs.Key.{rank}
-use Rattle.r4_measure.specs.r4_cell.Seen.{CellSeen}
-use Rattle.r4_measure.specs.r4_work.Working.{standing}
-use Rattle.r4_measure.specs.r4_work.declared.working.WorkingSet.{WorkingSet}
+use Rattle.r4_build.specs.r4_measure.r4_cell.Seen.{CellSeen}
+use Rattle.r4_build.specs.r4_measure.r4_work.Working.{standing}
+use Rattle.r4_build.specs.r4_measure.r4_work.declared.working.WorkingSet.{WorkingSet}
 
 -- The second cell is the first under its number, with the same block; its range may reach further.
 pub record IsWider (c d : CellSeen) : Type 0 where

@@ -3,13 +3,13 @@
 ghost use Rattle.std.specs.Prelude.{◌≡◌, ◌++◌, ◌∷◌, [], map, not, IfOk, OnOk};
 ghost use Rattle.std.specs.List.{filter};
 ghost use Rattle.r4_content.specs.Held.{edits_of, interval_of, pair_of};
-ghost use Rattle.r4_leaf_edits.specs.Suiting.{is_byte};
-ghost use Rattle.r4_measure.specs.r4_reach.Reach.{is_body};
+ghost use Rattle.r4_build.specs.r4_leaf_edits.Suiting.{is_byte};
+ghost use Rattle.r4_build.specs.r4_measure.r4_reach.Reach.{is_body};
 ghost use Rattle.r4_extent_change.specs.Beside.{without_bytes};
 
 use r4_base::{Key, Memory, Value};
 use r4_content::{Edits, Interval, Reply};
-use r4_extent_demands::is_of_body;
+use r4_extent_counts::is_of_body;
 use std::alloc::Global;
 
 /// The edits without the bytes that they put, and without what they take of a body: attributes and entries, which lie

@@ -6,15 +6,15 @@ ghost use Rattle.std.specs.Arc.{arc_value};
 ghost use Rattle.std.specs.List.{filter};
 ghost use Rattle.std.specs.Option.{option_map};
 ghost use Rattle.r4_base.specs.Key.{rank};
-ghost use Rattle.r4_extent_demands.specs.Sizes.{IsSizedBody};
+ghost use Rattle.r4_extent_counts.specs.r4_extent_demands.Sizes.{IsSizedBody};
 ghost use Rattle.r4_extent_loss.specs.LosingEach.{loss_of};
 ghost use Rattle.r4_extent_change.specs.Among.{is_block_of, is_left_of, is_losing, left_among};
 ghost use Rattle.r4_extent_change.specs.Among.{loss_among, losing_twigs, losses_among};
 
 use r4_base::Memory;
-use r4_extent_demands::SizedBody;
+use r4_build::Cell;
+use r4_extent_counts::SizedBody;
 use r4_extent_loss::{Losing, gone_of};
-use r4_measure::Cell;
 use std::alloc::Global;
 use std::sync::Arc;
 

@@ -10,16 +10,16 @@ use Rattle.r4_base.specs.Value.{Value}
 use Rattle.r4_base.specs.declared.items.Unit.{Unit as ExtentUnit}
 use Rattle.r4_base.specs.declared.key.Key.{Key}
 use Rattle.r4_base.specs.declared.things.NodeId.{NodeId}
-use Rattle.r4_branch.specs.Pieces.{pieces_in}
-use Rattle.r4_branch.specs.declared.piece.TwigPart.{TwigPart}
-use Rattle.r4_branch.specs.declared.piece.TwigPart.TheVariants.{Blocks, Pointer}
-use Rattle.r4_branch.specs.declared.piece.TwigPiece.{TwigPiece}
-use Rattle.r4_cell.specs.Seen.{CellSeen, node_of}
+use Rattle.r4_extent_demands.specs.r4_branch.Pieces.{pieces_in}
+use Rattle.r4_extent_demands.specs.r4_branch.declared.piece.TwigPart.{TwigPart}
+use Rattle.r4_extent_demands.specs.r4_branch.declared.piece.TwigPart.TheVariants.{Blocks, Pointer}
+use Rattle.r4_extent_demands.specs.r4_branch.declared.piece.TwigPiece.{TwigPiece}
+use Rattle.r4_extent_demands.specs.r4_cell.Seen.{CellSeen, node_of}
 use Rattle.r4_content.specs.Edited.{Edits}
-use Rattle.r4_graft.specs.Splices.{parted, place}
-use Rattle.r4_leaf.specs.Units.{is_between}
+use Rattle.r4_extent_demands.specs.r4_graft.Splices.{parted, place}
+use Rattle.r4_extent_demands.specs.r4_leaf.Units.{is_between}
 use Rattle.r4_extent_demands.proofs.r4_leaf_demands.Weighed.{block_is}
-use Rattle.r4_path.specs.TwigPieces.{twig_pieces}
+use Rattle.r4_extent_demands.specs.r4_path.TwigPieces.{twig_pieces}
 use Rattle.r4_extent_demands.specs.r4_reach.Touched.{Body, blocks_end, coming, first_byte, going, is_spread}
 use Rattle.r4_extent_demands.specs.r4_reach.Needs.{cut_pieces, gets_bytes, taken_up}
 use Rattle.r4_extent_counts.specs.Coming.{body_cells, come_to, filled_in, gaining, leaf_taking_up}

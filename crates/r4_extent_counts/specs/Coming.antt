@@ -6,14 +6,14 @@ use Rattle.r4_base.specs.Key.{rank}
 use Rattle.r4_base.specs.Node.{items_of}
 use Rattle.r4_base.specs.Tree.{Node, Root, Store}
 use Rattle.r4_base.specs.Value.{Value}
-use Rattle.r4_branch.specs.Pieces.{pieces_in}
-use Rattle.r4_branch.specs.declared.piece.TwigPart.{TwigPart}
-use Rattle.r4_branch.specs.declared.piece.TwigPart.TheVariants.{Blocks, Pointer}
-use Rattle.r4_branch.specs.declared.piece.TwigPiece.{TwigPiece}
-use Rattle.r4_cell.specs.Seen.{CellSeen, node_of}
+use Rattle.r4_extent_demands.specs.r4_branch.Pieces.{pieces_in}
+use Rattle.r4_extent_demands.specs.r4_branch.declared.piece.TwigPart.{TwigPart}
+use Rattle.r4_extent_demands.specs.r4_branch.declared.piece.TwigPart.TheVariants.{Blocks, Pointer}
+use Rattle.r4_extent_demands.specs.r4_branch.declared.piece.TwigPiece.{TwigPiece}
+use Rattle.r4_extent_demands.specs.r4_cell.Seen.{CellSeen, node_of}
 use Rattle.r4_content.specs.Edited.{Edits}
-use Rattle.r4_graft.specs.Splices.{parted, place}
-use Rattle.r4_leaf.specs.Units.{is_between}
+use Rattle.r4_extent_demands.specs.r4_graft.Splices.{parted, place}
+use Rattle.r4_extent_demands.specs.r4_leaf.Units.{is_between}
 use Rattle.r4_extent_demands.specs.r4_reach.Demand.{Demand}
 use Rattle.r4_extent_demands.specs.r4_reach.Leaves.{most_of}
 use Rattle.r4_extent_demands.specs.r4_reach.Needs.{Ask, cut_pieces, gets_bytes, put_among, taken_up}

@@ -3,20 +3,18 @@
 ghost use Rattle.std.specs.Prelude.{◌≡◌, ◌^◌, ◌<◌, IfOk, Some, map, sum_by};
 ghost use Rattle.std.specs.Arc.{arc_value};
 ghost use Rattle.std.specs.Option.{option_copied};
-ghost use Rattle.r4_cell.specs.Seen.{node_of};
+ghost use Rattle.r4_extent_demands.specs.r4_cell.Seen.{node_of};
 ghost use Rattle.r4_content.specs.Held.{edits_of};
 ghost use Rattle.r4_extent_counts.specs.Coming.{body_cells, leaf_taking_up, twig_cells};
 ghost use Rattle.r4_extent_demands.specs.Sizes.{AreExtentEdits, IsSized, IsSizedBody};
-ghost use Rattle.r4_path.specs.TwigPieces.{ArePiecesOf};
+ghost use Rattle.r4_extent_demands.specs.r4_path.TwigPieces.{ArePiecesOf};
 
 use crate::gaining::{come_to, filled_in_all};
 use r4_base::{Memory, TWIG};
-use r4_branch::TwigPiece;
-use r4_cell::Cell;
 use r4_content::Edits;
-use r4_extent_demands::{SizedBody, cut, part_each, put_among, taken_up};
-use r4_graft::place_of;
-use r4_path::pieces_of_cell;
+use r4_extent_demands::{
+    Cell, SizedBody, TwigPiece, cut, part_each, pieces_of_cell, place_of, put_among, taken_up,
+};
 use std::alloc::{AllocError, Global};
 use std::sync::Arc;
 

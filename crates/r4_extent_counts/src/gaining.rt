@@ -3,7 +3,7 @@
 ghost use Rattle.std.specs.Prelude.{◌≡◌, ◌+◌, ◌-◌, ◌*◌, ◌/◌, ◌^◌, ◌≤◌, IfOk, sum_by};
 ghost use Rattle.std.specs.Prelude.{All};
 ghost use Rattle.r4_base.specs.Key.{minor_of, offset_of, rank};
-ghost use Rattle.r4_cell.specs.Seen.{node_of};
+ghost use Rattle.r4_extent_demands.specs.r4_cell.Seen.{node_of};
 ghost use Rattle.r4_content.specs.Held.{edits_of};
 ghost use Rattle.r4_extent_demands.specs.r4_reach.Needs.{gets_bytes};
 ghost use Rattle.r4_extent_demands.specs.r4_reach.Touched.{coming};
@@ -12,10 +12,8 @@ ghost use Rattle.r4_extent_demands.specs.Pieces.{HasRoom};
 ghost use Rattle.r4_extent_demands.specs.Sizes.{IsSizedBody};
 
 use r4_base::{BLOCK_BYTES, Key, Memory};
-use r4_branch::{TwigPart, TwigPiece};
-use r4_cell::Cell;
 use r4_content::Edits;
-use r4_extent_demands::{SizedBody, comes_first, gets_some};
+use r4_extent_demands::{Cell, SizedBody, TwigPart, TwigPiece, comes_first, gets_some};
 use std::alloc::AllocError;
 
 /// How many of so many blocks, from a key on, get bytes. They are counted by halves.

@@ -5,3 +5,4 @@ mod coming;
 mod gaining;
 
 pub use coming::cells_coming;
+pub use r4_extent_demands::{POINTER_ROOM, SizedBody, changes_pieces, is_of_body, node_bytes};

@@ -7,10 +7,10 @@ use Rattle.r4_base.specs.Cell.{spans_in}
 use Rattle.r4_base.specs.Key.{rank}
 use Rattle.r4_base.specs.Node.{items_of}
 use Rattle.r4_base.specs.Tree.{Span}
-use Rattle.r4_cell.specs.Seen.{CellSeen, node_of}
+use Rattle.r4_bodies.specs.r4_cell.Seen.{CellSeen, node_of}
 use Rattle.r4_bodies.specs.r4_leaf_demands.Touching.{IsToldAt, spans_at}
-use Rattle.r4_node40.proofs.Following.{item_first}
-use Rattle.r4_leaf_edits.proofs.r4_patch.Members.{cases, here, none}
+use Rattle.r4_graft.proofs.r4_node40.Following.{item_first}
+use Rattle.r4_bodies.proofs.r4_leaf_edits.r4_patch.Members.{cases, here, none}
 use Rattle.r4_bodies.proofs.r4_search.Places.{item_in, spans_at as in_spans}
 use Rattle.r4_extent_demands.specs.Ranges.{Holds, HoldsAt, HoldsIn}
 use Rattle.r4_extent_demands.specs.declared.ranges.Way.{Way}

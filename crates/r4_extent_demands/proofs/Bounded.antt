@@ -12,19 +12,19 @@ use Rattle.r4_base.specs.Key.{key_of_rank, later, offset_of, rank}
 use Rattle.r4_base.specs.Tree.{Node}
 use Rattle.r4_base.specs.Value.{Value}
 use Rattle.r4_base.specs.declared.key.Key.{Key}
-use Rattle.r4_branch.specs.Pieces.{Follow, bytes_behind, is_at, last_end, open_end, part_end, piece_end, twig_bytes}
-use Rattle.r4_branch.specs.declared.piece.TwigPart.{TwigPart}
-use Rattle.r4_branch.specs.declared.piece.TwigPart.TheVariants.{Blocks, Pointer}
-use Rattle.r4_branch.specs.declared.piece.TwigPiece.{TwigPiece}
-use Rattle.r4_branch.proofs.Counted.{behind_append, behind_most, costs}
+use Rattle.r4_graft.specs.r4_branch.Pieces.{Follow, bytes_behind, is_at, last_end, open_end, part_end, piece_end, twig_bytes}
+use Rattle.r4_graft.specs.r4_branch.declared.piece.TwigPart.{TwigPart}
+use Rattle.r4_graft.specs.r4_branch.declared.piece.TwigPart.TheVariants.{Blocks, Pointer}
+use Rattle.r4_graft.specs.r4_branch.declared.piece.TwigPiece.{TwigPiece}
+use Rattle.r4_graft.proofs.r4_branch.Counted.{behind_append, behind_most, costs}
 use Rattle.r4_content.specs.Edited.{Edits}
 use Rattle.r4_graft.specs.Splices.{blocks_past, first_blocks, halves, is_within, parted, parted_piece, place, spliced}
 use Rattle.r4_graft.proofs.Halves.{later_key, later_rank}
-use Rattle.r4_leaf.specs.Units.{is_between}
-use Rattle.r4_leaf_edits.specs.Suiting.{SuitLeaves}
-use Rattle.r4_leaf_edits.proofs.KeyRanks.{key_again}
-use Rattle.r4_leaf_edits.specs.r4_reach.Needs.{cut_pieces, filled, gets_bytes, has_left_leaf, pointer_at, runs, taken_up, widened}
-use Rattle.r4_leaf_edits.specs.r4_reach.Touched.{Body, blocks_end, coming, first_byte, going, is_spread}
+use Rattle.r4_bodies.specs.r4_leaf.Units.{is_between}
+use Rattle.r4_bodies.specs.r4_leaf_edits.Suiting.{SuitLeaves}
+use Rattle.r4_bodies.proofs.r4_leaf_edits.KeyRanks.{key_again}
+use Rattle.r4_bodies.specs.r4_leaf_edits.r4_reach.Needs.{cut_pieces, filled, gets_bytes, has_left_leaf, pointer_at, runs, taken_up, widened}
+use Rattle.r4_bodies.specs.r4_leaf_edits.r4_reach.Touched.{Body, blocks_end, coming, first_byte, going, is_spread}
 use Rattle.r4_extent_demands.specs.Pieces.{AreInOrder, HasRoom, PartHasRoom, block_at, hole_at, remade}
 use Rattle.r4_extent_demands.specs.Sizes.{IsFirstKey, IsSizedBody}
 use Rattle.r4_extent_demands.proofs.Low.{at_offset, gets_low}

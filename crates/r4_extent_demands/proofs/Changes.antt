@@ -13,14 +13,14 @@ use Rattle.r4_base.specs.Tree.{Node}
 use Rattle.r4_base.specs.Value.{Value}
 use Rattle.r4_base.specs.declared.items.Unit.{Unit as ExtentUnit}
 use Rattle.r4_base.specs.declared.key.Key.{Key}
-use Rattle.r4_branch.specs.Pieces.{item_pieces, pieces_in}
-use Rattle.r4_branch.proofs.ItemPieces.{pointer_pieces}
-use Rattle.r4_node40.proofs.Following.{item_first}
-use Rattle.r4_branch.specs.declared.piece.TwigPart.TheVariants.{Blocks}
-use Rattle.r4_branch.specs.declared.piece.TwigPiece.{TwigPiece}
+use Rattle.r4_graft.specs.r4_branch.Pieces.{item_pieces, pieces_in}
+use Rattle.r4_graft.proofs.r4_branch.ItemPieces.{pointer_pieces}
+use Rattle.r4_graft.proofs.r4_node40.Following.{item_first}
+use Rattle.r4_graft.specs.r4_branch.declared.piece.TwigPart.TheVariants.{Blocks}
+use Rattle.r4_graft.specs.r4_branch.declared.piece.TwigPiece.{TwigPiece}
 use Rattle.r4_content.specs.Edited.{Edits}
-use Rattle.r4_leaf_edits.specs.r4_reach.Needs.{changes_pieces, filled, gets_bytes, is_hole_part, put_among, runs}
-use Rattle.r4_leaf_edits.specs.r4_reach.Touched.{Body, going}
+use Rattle.r4_bodies.specs.r4_leaf_edits.r4_reach.Needs.{changes_pieces, filled, gets_bytes, is_hole_part, put_among, runs}
+use Rattle.r4_bodies.specs.r4_leaf_edits.r4_reach.Touched.{Body, going}
 use Rattle.r4_extent_demands.specs.Changing.{changes_units, comes_in, goes_from, is_changed, is_other, is_refilled}
 use Rattle.r4_extent_demands.specs.Pieces.{block_at, hole_at}
 use Rattle.r4_extent_demands.proofs.Runs.{AreQuiet, hole_some, next_runs, quiet_runs}

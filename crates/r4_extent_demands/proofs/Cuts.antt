@@ -10,15 +10,15 @@ use Rattle.r4_base.specs.Extents.{is_hole}
 use Rattle.r4_base.specs.Key.{rank}
 use Rattle.r4_base.specs.Tree.{Name, Node}
 use Rattle.r4_base.specs.Value.{Value}
-use Rattle.r4_branch.specs.Pieces.{is_at, last_end, names_of, next_of, open_end, part_names}
-use Rattle.r4_branch.specs.declared.piece.TwigPart.{TwigPart}
-use Rattle.r4_branch.specs.declared.piece.TwigPart.TheVariants.{Blocks, Pointer}
-use Rattle.r4_branch.specs.declared.piece.TwigPiece.{TwigPiece}
-use Rattle.r4_branch.proofs.Following.{last_more}
-use Rattle.r4_cell.specs.Seen.{CellSeen, node_of}
+use Rattle.r4_graft.specs.r4_branch.Pieces.{is_at, last_end, names_of, next_of, open_end, part_names}
+use Rattle.r4_graft.specs.r4_branch.declared.piece.TwigPart.{TwigPart}
+use Rattle.r4_graft.specs.r4_branch.declared.piece.TwigPart.TheVariants.{Blocks, Pointer}
+use Rattle.r4_graft.specs.r4_branch.declared.piece.TwigPiece.{TwigPiece}
+use Rattle.r4_graft.proofs.r4_branch.Following.{last_more}
+use Rattle.r4_bodies.specs.r4_cell.Seen.{CellSeen, node_of}
 use Rattle.r4_graft.specs.Splices.{parted, place, spliced}
-use Rattle.r4_leaf_edits.specs.r4_path.TwigPieces.{ArePiecesOf}
-use Rattle.r4_leaf_edits.specs.r4_reach.Needs.{cut_pieces, has_left_leaf, pointer_at, taken_up}
+use Rattle.r4_bodies.specs.r4_leaf_edits.r4_path.TwigPieces.{ArePiecesOf}
+use Rattle.r4_bodies.specs.r4_leaf_edits.r4_reach.Needs.{cut_pieces, has_left_leaf, pointer_at, taken_up}
 use Rattle.r4_extent_demands.specs.Pieces.{ends_leaf, has_leaf_end, without_between}
 
 -- ---- leaves that end at a key

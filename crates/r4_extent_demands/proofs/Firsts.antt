@@ -7,9 +7,9 @@ use Rattle.r4_base.specs.Volume.{byte_rank, object_of}
 use Rattle.r4_base.specs.declared.items.Target.{Target}
 use Rattle.r4_base.specs.declared.key.Key.{Key}
 use Rattle.r4_graft.proofs.Halves.{later_key, later_rank}
-use Rattle.r4_leaf_edits.proofs.KeyRanks.{body_is, key_again}
-use Rattle.r4_leaf_edits.specs.r4_reach.Reach.{is_body}
-use Rattle.r4_leaf_edits.specs.r4_reach.Touched.{Body}
+use Rattle.r4_bodies.proofs.r4_leaf_edits.KeyRanks.{body_is, key_again}
+use Rattle.r4_bodies.specs.r4_leaf_edits.r4_reach.Reach.{is_body}
+use Rattle.r4_bodies.specs.r4_leaf_edits.r4_reach.Touched.{Body}
 use Rattle.r4_extent_demands.specs.Sizes.{IsFirstKey}
 
 begin_key : (k : Key) → IsKey k → IsKey (with_offset k 0)

@@ -5,8 +5,8 @@ use Rattle.std.proofs.lemmas.Bool.{le-ltb, ltb-false, or_parts}
 use Rattle.std.proofs.lemmas.Grind.{common_steps}
 use Rattle.r4_content.specs.Bodies.{larger, smaller}
 use Rattle.r4_content.specs.Edited.{Edits, Intervals, put_keys}
-use Rattle.r4_leaf_edits.specs.r4_reach.Needs.{gets_bytes, is_met, meets}
-use Rattle.r4_leaf_edits.specs.r4_reach.Touched.{Body, first_byte, turns_out}
+use Rattle.r4_bodies.specs.r4_leaf_edits.r4_reach.Needs.{gets_bytes, is_met, meets}
+use Rattle.r4_bodies.specs.r4_leaf_edits.r4_reach.Touched.{Body, first_byte, turns_out}
 use Rattle.r4_extent_demands.specs.Pieces.{gets_among}
 
 one_apart : (lo hi a b c d : ℕ) → lo ≤ a → b ≤ hi → nat_lt (larger lo c) (smaller hi d) ≡ false

@@ -11,12 +11,12 @@ use Rattle.r4_content.specs.Bodies.{larger, smaller}
 use Rattle.r4_content.specs.Edited.{Edits, Intervals, Pairs, is_between, is_in, put_keys}
 use Rattle.r4_content.proofs.EditLaws.{one_key}
 use Rattle.r4_graft.proofs.Halves.{later_key, later_rank}
-use Rattle.r4_leaf_edits.specs.Suiting.{IsBefore, SuitLeaves, is_byte, zero_pairs}
-use Rattle.r4_leaf_edits.proofs.KeyRanks.{body_is, key_again}
-use Rattle.r4_leaf_edits.proofs.Whole.{bodies_are_bytes}
-use Rattle.r4_leaf_edits.specs.r4_reach.Needs.{gets_bytes, is_met, meets}
-use Rattle.r4_leaf_edits.specs.r4_reach.Reach.{is_body}
-use Rattle.r4_leaf_edits.specs.r4_reach.Touched.{Body, first_byte, turns_out}
+use Rattle.r4_bodies.specs.r4_leaf_edits.Suiting.{IsBefore, SuitLeaves, is_byte, zero_pairs}
+use Rattle.r4_bodies.proofs.r4_leaf_edits.KeyRanks.{body_is, key_again}
+use Rattle.r4_bodies.proofs.r4_leaf_edits.Whole.{bodies_are_bytes}
+use Rattle.r4_bodies.specs.r4_leaf_edits.r4_reach.Needs.{gets_bytes, is_met, meets}
+use Rattle.r4_bodies.specs.r4_leaf_edits.r4_reach.Reach.{is_body}
+use Rattle.r4_bodies.specs.r4_leaf_edits.r4_reach.Touched.{Body, first_byte, turns_out}
 use Rattle.r4_extent_demands.specs.Sizes.{IsFirstKey}
 
 -- a range that meets an interval has a key of it

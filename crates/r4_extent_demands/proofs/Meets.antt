@@ -5,7 +5,7 @@ use Rattle.std.proofs.lemmas.Bool.{both_ways, or_cases, or_left, or_right}
 use Rattle.std.proofs.lemmas.Bool.Decides.{nat_tests}
 use Rattle.r4_content.specs.Bodies.{larger}
 use Rattle.r4_content.specs.Edited.{Intervals, is_between, is_in}
-use Rattle.r4_leaf_edits.specs.r4_reach.Needs.{is_met, meets}
+use Rattle.r4_bodies.specs.r4_leaf_edits.r4_reach.Needs.{is_met, meets}
 
 -- an interval has a key of the range
 abbrev pub HasOf : Intervals → (lo hi : ℕ) → Type 0

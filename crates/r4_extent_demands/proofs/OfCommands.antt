@@ -7,8 +7,8 @@ use Rattle.r4_content.specs.Edited.{Edits, Pairs}
 use Rattle.r4_content.specs.Fields.{HasBytePaths}
 use Rattle.r4_content.specs.Seen.{Rises}
 use Rattle.r4_content.specs.declared.command.Command.{Command}
-use Rattle.r4_leaf_edits.specs.Suiting.{IsBefore, SuitLeaves}
-use Rattle.r4_leaf_edits.specs.r4_reach.Touched.{Body, body_on, edits_on, is_spread}
+use Rattle.r4_bodies.specs.r4_leaf_edits.Suiting.{IsBefore, SuitLeaves}
+use Rattle.r4_bodies.specs.r4_leaf_edits.r4_reach.Touched.{Body, body_on, edits_on, is_spread}
 use Rattle.r4_bodies.specs.r4_suited.Suited.{AreLawfulSeen, end_of_bytes as end_suited}
 use Rattle.r4_bodies.proofs.r4_suited.Runs.{few_set, grown_end, sized_run, written_run, run_suits}
 use Rattle.r4_bodies.proofs.r4_suited.Small.{leaf_small}

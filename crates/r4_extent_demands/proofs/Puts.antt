@@ -10,22 +10,22 @@ use Rattle.r4_base.specs.Key.{rank}
 use Rattle.r4_base.specs.Node.{Item, items_of}
 use Rattle.r4_base.specs.Tree.{Span}
 use Rattle.r4_base.specs.Value.{Byte, Entry, Stat}
-use Rattle.r4_cell.specs.Seen.{CellSeen, node_of}
+use Rattle.r4_bodies.specs.r4_cell.Seen.{CellSeen, node_of}
 use Rattle.r4_content.specs.Edited.{Edits, is_between}
 use Rattle.r4_content.specs.Held.{interval_of}
 use Rattle.r4_content.specs.declared.edits.Interval.{Interval}
-use Rattle.r4_leaf.specs.Remade.{AreWithin, CanPutAll, cut_all, put_all, units_after as units_left}
-use Rattle.r4_leaf.specs.Units.{LeafUnit, bytes_behind, leaf_bytes, unit_bytes}
-use Rattle.r4_leaf.specs.declared.remaking.Given.{Given}
-use Rattle.r4_leaf.specs.declared.remaking.KeyRange.{KeyRange}
+use Rattle.r4_bodies.specs.r4_leaf.Remade.{AreWithin, CanPutAll, cut_all, put_all, units_after as units_left}
+use Rattle.r4_bodies.specs.r4_leaf.Units.{LeafUnit, bytes_behind, leaf_bytes, unit_bytes}
+use Rattle.r4_bodies.specs.r4_leaf.declared.remaking.Given.{Given}
+use Rattle.r4_bodies.specs.r4_leaf.declared.remaking.KeyRange.{KeyRange}
 use Rattle.r4_bodies.specs.r4_leaf_demands.Touching.{item_spans, spans_at}
-use Rattle.r4_leaf_edits.specs.Made.{AreOfLeaf, MakesEdits, bytes_end, spread_keys}
-use Rattle.r4_leaf_edits.specs.Suiting.{SuitLeaves}
+use Rattle.r4_bodies.specs.r4_leaf_edits.Made.{AreOfLeaf, MakesEdits, bytes_end, spread_keys}
+use Rattle.r4_bodies.specs.r4_leaf_edits.Suiting.{SuitLeaves}
 use Rattle.r4_bodies.proofs.Premises.{suits_later}
-use Rattle.r4_node40.proofs.Following.{item_first}
-use Rattle.r4_leaf_edits.proofs.r4_path.CellNodes.{spans_are}
-use Rattle.r4_leaf_edits.specs.r4_reach.Needs.{leaf_edits, leaves_for, over}
-use Rattle.r4_leaf_edits.specs.r4_reach.Touched.{Body, first_byte, is_spread}
+use Rattle.r4_graft.proofs.r4_node40.Following.{item_first}
+use Rattle.r4_bodies.proofs.r4_leaf_edits.r4_path.CellNodes.{spans_are}
+use Rattle.r4_bodies.specs.r4_leaf_edits.r4_reach.Needs.{leaf_edits, leaves_for, over}
+use Rattle.r4_bodies.specs.r4_leaf_edits.r4_reach.Touched.{Body, first_byte, is_spread}
 use Rattle.r4_extent_demands.specs.Putting.{leaves_in, put_into}
 use Rattle.r4_extent_demands.specs.Sizes.{AreExtentEdits, IsSized, end_of_bytes}
 

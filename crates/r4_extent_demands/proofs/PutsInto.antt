@@ -18,18 +18,18 @@ use Rattle.r4_content.specs.Held.{edits_of, fill_pairs, pair_of, run_pairs}
 use Rattle.r4_content.specs.Listed.{list_edited}
 use Rattle.r4_content.specs.declared.edits.Edits.{Edits as HeldEdits}
 use Rattle.r4_content.proofs.EditLaws.{in_append, last_put, put_off, put_on}
-use Rattle.r4_leaf_edits.specs.Suiting.{IsBefore, SuitLeaves, is_byte, zero_pairs}
-use Rattle.r4_leaf_edits.proofs.Clipped.{all_left, all_right}
-use Rattle.r4_leaf_edits.proofs.Lookups.{found, in_is_found, kept_found}
-use Rattle.r4_leaf_edits.proofs.Lookups.{here as here_key}
-use Rattle.r4_leaf_edits.proofs.Touched.{values_met}
-use Rattle.r4_leaf_edits.proofs.Whole.{fills_filter, runs_filter}
+use Rattle.r4_bodies.specs.r4_leaf_edits.Suiting.{IsBefore, SuitLeaves, is_byte, zero_pairs}
+use Rattle.r4_bodies.proofs.r4_leaf_edits.Clipped.{all_left, all_right}
+use Rattle.r4_bodies.proofs.r4_leaf_edits.Lookups.{found, in_is_found, kept_found}
+use Rattle.r4_bodies.proofs.r4_leaf_edits.Lookups.{here as here_key}
+use Rattle.r4_bodies.proofs.r4_leaf_edits.Touched.{values_met}
+use Rattle.r4_bodies.proofs.r4_leaf_edits.Whole.{fills_filter, runs_filter}
 use Rattle.r4_extent_demands.proofs.Meets.{keys_meet, met_keys}
-use Rattle.r4_leaf.specs.Units.{LeafUnit}
-use Rattle.r4_leaf_edits.proofs.r4_patch.Members.{cases, here, later, none}
-use Rattle.r4_leaf_edits.specs.r4_reach.Needs.{is_met, leaf_edits, leaves_for}
-use Rattle.r4_leaf_edits.specs.r4_reach.Reach.{is_body}
-use Rattle.r4_leaf_edits.specs.r4_reach.Touched.{Body, first_byte, is_spread}
+use Rattle.r4_bodies.specs.r4_leaf.Units.{LeafUnit}
+use Rattle.r4_bodies.proofs.r4_leaf_edits.r4_patch.Members.{cases, here, later, none}
+use Rattle.r4_bodies.specs.r4_leaf_edits.r4_reach.Needs.{is_met, leaf_edits, leaves_for}
+use Rattle.r4_bodies.specs.r4_leaf_edits.r4_reach.Reach.{is_body}
+use Rattle.r4_bodies.specs.r4_leaf_edits.r4_reach.Touched.{Body, first_byte, is_spread}
 use Rattle.r4_extent_demands.specs.Putting.{leaves_in, put_into}
 use Rattle.r4_extent_demands.specs.Ranges.{puts_into}
 use Rattle.r4_extent_demands.proofs.Puts.{leaves_more}

@@ -9,12 +9,12 @@ use Rattle.r4_base.specs.Extents.{IsLawfulUnit, is_hole, unit_past}
 use Rattle.r4_base.specs.Key.{IsKey, later, offset_of, rank}
 use Rattle.r4_base.specs.declared.items.Unit.{Unit as ExtentUnit}
 use Rattle.r4_base.specs.declared.key.Key.{Key}
-use Rattle.r4_branch.specs.Pieces.{Follow, IsSound, IsSoundPart, open_end, part_end, piece_end}
-use Rattle.r4_branch.specs.declared.piece.TwigPart.{TwigPart}
-use Rattle.r4_branch.specs.declared.piece.TwigPart.TheVariants.{Blocks, Pointer}
-use Rattle.r4_branch.specs.declared.piece.TwigPiece.{TwigPiece}
+use Rattle.r4_graft.specs.r4_branch.Pieces.{Follow, IsSound, IsSoundPart, open_end, part_end, piece_end}
+use Rattle.r4_graft.specs.r4_branch.declared.piece.TwigPart.{TwigPart}
+use Rattle.r4_graft.specs.r4_branch.declared.piece.TwigPart.TheVariants.{Blocks, Pointer}
+use Rattle.r4_graft.specs.r4_branch.declared.piece.TwigPiece.{TwigPiece}
 use Rattle.r4_graft.specs.Splices.{blocks_past, first_blocks, halves, is_within, parted, parted_piece, spliced}
-use Rattle.r4_branch.proofs.UnitPieces.{some_width}
+use Rattle.r4_graft.proofs.r4_branch.UnitPieces.{some_width}
 use Rattle.r4_graft.proofs.Halves.{later_key, later_offset}
 use Rattle.r4_extent_demands.specs.Pieces.{HasRoom, HasRoomFor, PartHasRoom}
 

@@ -7,14 +7,14 @@ use Rattle.r4_base.specs.Extents.{is_hole}
 use Rattle.r4_base.specs.Key.{IsKey, key_of_rank, later, offset_of, rank}
 use Rattle.r4_base.specs.declared.items.Unit.{Unit as ExtentUnit}
 use Rattle.r4_base.specs.declared.key.Key.{Key}
-use Rattle.r4_branch.specs.Pieces.{bytes_behind, is_at, open_end, part_bytes, twig_bytes}
-use Rattle.r4_branch.specs.declared.piece.TwigPart.{TwigPart}
-use Rattle.r4_branch.specs.declared.piece.TwigPart.TheVariants.{Blocks, Pointer}
-use Rattle.r4_branch.specs.declared.piece.TwigPiece.{TwigPiece}
-use Rattle.r4_branch.proofs.Counted.{costs}
+use Rattle.r4_graft.specs.r4_branch.Pieces.{bytes_behind, is_at, open_end, part_bytes, twig_bytes}
+use Rattle.r4_graft.specs.r4_branch.declared.piece.TwigPart.{TwigPart}
+use Rattle.r4_graft.specs.r4_branch.declared.piece.TwigPart.TheVariants.{Blocks, Pointer}
+use Rattle.r4_graft.specs.r4_branch.declared.piece.TwigPiece.{TwigPiece}
+use Rattle.r4_graft.proofs.r4_branch.Counted.{costs}
 use Rattle.r4_graft.proofs.Halves.{later_key, later_rank}
-use Rattle.r4_leaf_edits.proofs.KeyRanks.{key_again}
-use Rattle.r4_leaf_edits.specs.r4_reach.Needs.{runs, widened}
+use Rattle.r4_bodies.proofs.r4_leaf_edits.KeyRanks.{key_again}
+use Rattle.r4_bodies.specs.r4_leaf_edits.r4_reach.Needs.{runs, widened}
 use Rattle.r4_extent_demands.specs.Pieces.{block_at}
 use Rattle.r4_extent_demands.proofs.Rooms.{open_blocks}
 

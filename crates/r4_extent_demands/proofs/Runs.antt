@@ -6,9 +6,9 @@ use Rattle.std.proofs.lemmas.Bool.{ne_eqb}
 use Rattle.std.proofs.lemmas.List.{append-nil, append_assoc}
 use Rattle.r4_base.specs.Key.{key_of_rank}
 use Rattle.r4_base.specs.declared.key.Key.{Key}
-use Rattle.r4_branch.specs.declared.piece.TwigPart.TheVariants.{Blocks}
-use Rattle.r4_branch.specs.declared.piece.TwigPiece.{TwigPiece}
-use Rattle.r4_leaf_edits.specs.r4_reach.Needs.{runs, widened}
+use Rattle.r4_graft.specs.r4_branch.declared.piece.TwigPart.TheVariants.{Blocks}
+use Rattle.r4_graft.specs.r4_branch.declared.piece.TwigPiece.{TwigPiece}
+use Rattle.r4_bodies.specs.r4_leaf_edits.r4_reach.Needs.{runs, widened}
 use Rattle.r4_extent_demands.specs.Pieces.{block_at, hole_at}
 
 hole_piece : Key → ℕ → TwigPiece

@@ -5,12 +5,12 @@ use Rattle.std.specs.List.{list_any}
 use Rattle.r4_base.specs.Node.{items_of}
 use Rattle.r4_base.specs.Tree.{Node, Span}
 use Rattle.r4_base.specs.Value.{Value}
-use Rattle.r4_branch.specs.Pieces.{pieces_in}
-use Rattle.r4_branch.specs.declared.piece.TwigPiece.{TwigPiece}
+use Rattle.r4_graft.specs.r4_branch.Pieces.{pieces_in}
+use Rattle.r4_graft.specs.r4_branch.declared.piece.TwigPiece.{TwigPiece}
 use Rattle.r4_content.specs.Edited.{Edits}
-use Rattle.r4_leaf.specs.Units.{is_between}
-use Rattle.r4_leaf_edits.specs.r4_reach.Needs.{filled, goes_in, is_hole_part}
-use Rattle.r4_leaf_edits.specs.r4_reach.Touched.{Body, coming, going}
+use Rattle.r4_bodies.specs.r4_leaf.Units.{is_between}
+use Rattle.r4_bodies.specs.r4_leaf_edits.r4_reach.Needs.{filled, goes_in, is_hole_part}
+use Rattle.r4_bodies.specs.r4_leaf_edits.r4_reach.Touched.{Body, coming, going}
 
 -- blocks come, and the first of them into an extent's range
 abbrev pub comes_in : Body → Span → Bool

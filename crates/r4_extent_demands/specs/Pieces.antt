@@ -7,14 +7,14 @@ use Rattle.r4_base.specs.Tree.{Node}
 use Rattle.r4_base.specs.Value.{Value}
 use Rattle.r4_base.specs.declared.items.Unit.{Unit as ExtentUnit}
 use Rattle.r4_base.specs.declared.key.Key.{Key}
-use Rattle.r4_branch.specs.Pieces.{next_of, piece_end}
-use Rattle.r4_branch.specs.declared.piece.TwigPart.{TwigPart}
-use Rattle.r4_branch.specs.declared.piece.TwigPart.TheVariants.{Blocks, Pointer}
-use Rattle.r4_branch.specs.declared.piece.TwigPiece.{TwigPiece}
+use Rattle.r4_graft.specs.r4_branch.Pieces.{next_of, piece_end}
+use Rattle.r4_graft.specs.r4_branch.declared.piece.TwigPart.{TwigPart}
+use Rattle.r4_graft.specs.r4_branch.declared.piece.TwigPart.TheVariants.{Blocks, Pointer}
+use Rattle.r4_graft.specs.r4_branch.declared.piece.TwigPiece.{TwigPiece}
 use Rattle.r4_content.specs.Edited.{Edits, put_keys}
 use Rattle.r4_graft.specs.Splices.{place, spliced}
-use Rattle.r4_leaf_edits.specs.r4_reach.Needs.{cut_pieces, filled, is_met, taken_up, with_coming}
-use Rattle.r4_leaf_edits.specs.r4_reach.Touched.{Body, first_byte, going, turns_out}
+use Rattle.r4_bodies.specs.r4_leaf_edits.r4_reach.Needs.{cut_pieces, filled, is_met, taken_up, with_coming}
+use Rattle.r4_bodies.specs.r4_leaf_edits.r4_reach.Touched.{Body, first_byte, going, turns_out}
 
 -- one of so many blocks, from a key on, gets bytes
 abbrev pub gets_among : Body → Edits → (key blocks : ℕ) → Bool

@@ -3,14 +3,14 @@ use Rattle.std.specs.Prelude.{◌≡◌, ℕ, List, [], ◌++◌, map, sum_by, S
 use Rattle.std.specs.List.{filter}
 use Rattle.r4_base.specs.Node.{Item, items_of}
 use Rattle.r4_base.specs.Tree.{Span}
-use Rattle.r4_cell.specs.Seen.{CellSeen}
+use Rattle.r4_bodies.specs.r4_cell.Seen.{CellSeen}
 use Rattle.r4_content.specs.Edited.{Edits, is_between}
 use Rattle.r4_content.specs.Listed.{list_edited}
-use Rattle.r4_leaf.specs.Units.{LeafUnit}
-use Rattle.r4_leaf.specs.declared.remaking.KeyRange.{KeyRange}
+use Rattle.r4_bodies.specs.r4_leaf.Units.{LeafUnit}
+use Rattle.r4_bodies.specs.r4_leaf.declared.remaking.KeyRange.{KeyRange}
 use Rattle.r4_bodies.specs.r4_leaf_demands.Touching.{span_of, spans_at}
-use Rattle.r4_leaf_edits.specs.r4_reach.Needs.{leaf_edits, leaves_for}
-use Rattle.r4_leaf_edits.specs.r4_reach.Touched.{Body}
+use Rattle.r4_bodies.specs.r4_leaf_edits.r4_reach.Needs.{leaf_edits, leaves_for}
+use Rattle.r4_bodies.specs.r4_leaf_edits.r4_reach.Touched.{Body}
 
 -- the values that are put into a range, as units of a leaf
 abbrev pub put_into : Option Body → Edits → (lo hi : ℕ) → List LeafUnit

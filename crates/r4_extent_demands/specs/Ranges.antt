@@ -3,12 +3,12 @@ use Rattle.std.specs.Prelude.{◌≡◌, ℕ, ◌++◌, Bool, true, map, Contain
 use Rattle.std.specs.Option.{option_copied}
 use Rattle.r4_base.specs.Node.{Item, items_of}
 use Rattle.r4_base.specs.Tree.{Span}
-use Rattle.r4_cell.specs.Seen.{CellSeen, node_of}
+use Rattle.r4_bodies.specs.r4_cell.Seen.{CellSeen, node_of}
 use Rattle.r4_content.specs.Edited.{Edits, put_keys}
 use Rattle.r4_content.specs.Held.{edits_of, interval_of}
 use Rattle.r4_bodies.specs.r4_leaf_demands.Touching.{MeetsKind, spans_at}
-use Rattle.r4_leaf_edits.specs.r4_reach.Needs.{is_met, leaf_edits}
-use Rattle.r4_leaf_edits.specs.r4_reach.Touched.{Body}
+use Rattle.r4_bodies.specs.r4_leaf_edits.r4_reach.Needs.{is_met, leaf_edits}
+use Rattle.r4_bodies.specs.r4_leaf_edits.r4_reach.Touched.{Body}
 use Rattle.r4_extent_demands.specs.Changing.{comes_in}
 use Rattle.r4_extent_demands.specs.Sizes.{AreExtentEdits, IsSizedBody}
 use Rattle.r4_extent_demands.specs.declared.ranges.Way.{Way}

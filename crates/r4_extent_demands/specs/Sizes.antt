@@ -6,11 +6,11 @@ use Rattle.r4_base.specs.Value.{Value}
 use Rattle.r4_base.specs.declared.key.Key.{Key}
 use Rattle.r4_content.specs.Edited.{Edits}
 use Rattle.r4_content.specs.Seen.{Rises}
-use Rattle.r4_leaf.specs.Units.{leaf_bytes}
-use Rattle.r4_leaf_edits.specs.Suiting.{SuitLeaves}
-use Rattle.r4_leaf_edits.specs.r4_reach.Needs.{units_after}
-use Rattle.r4_leaf_edits.specs.r4_reach.Reach.{is_body}
-use Rattle.r4_leaf_edits.specs.r4_reach.Touched.{Body, first_byte, is_spread}
+use Rattle.r4_bodies.specs.r4_leaf.Units.{leaf_bytes}
+use Rattle.r4_bodies.specs.r4_leaf_edits.Suiting.{SuitLeaves}
+use Rattle.r4_bodies.specs.r4_leaf_edits.r4_reach.Needs.{units_after}
+use Rattle.r4_bodies.specs.r4_leaf_edits.r4_reach.Reach.{is_body}
+use Rattle.r4_bodies.specs.r4_leaf_edits.r4_reach.Touched.{Body, first_byte, is_spread}
 
 -- Its key is a body's, and it has no more bytes, before and after, than a file may have.
 pub record IsSizedBody (b : Body) : Type 0 where

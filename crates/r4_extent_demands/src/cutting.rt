@@ -5,23 +5,20 @@ ghost use Rattle.std.specs.Prelude.{drop, length, map, take};
 ghost use Rattle.std.specs.List.{list_any};
 ghost use Rattle.std.specs.Option.{option_map};
 ghost use Rattle.r4_base.specs.Key.{rank};
-ghost use Rattle.r4_branch.specs.Pieces.{is_at, last_end, next_of, open_end};
-ghost use Rattle.r4_cell.specs.Seen.{node_of};
+ghost use Rattle.r4_graft.specs.r4_branch.Pieces.{is_at, last_end, next_of, open_end};
+ghost use Rattle.r4_bodies.specs.r4_cell.Seen.{node_of};
 ghost use Rattle.r4_bodies.specs.r4_marking.Marks.{heard_seen};
-ghost use Rattle.r4_leaf_edits.specs.r4_path.TwigPieces.{ArePiecesOf};
-ghost use Rattle.r4_leaf_edits.specs.r4_reach.Needs.{cut_pieces, points_to, taken_up, without_gone};
-ghost use Rattle.r4_leaf_edits.specs.r4_reach.Touched.{going};
+ghost use Rattle.r4_bodies.specs.r4_leaf_edits.r4_path.TwigPieces.{ArePiecesOf};
+ghost use Rattle.r4_bodies.specs.r4_leaf_edits.r4_reach.Needs.{cut_pieces, points_to, taken_up, without_gone};
+ghost use Rattle.r4_bodies.specs.r4_leaf_edits.r4_reach.Touched.{going};
 ghost use Rattle.r4_extent_demands.specs.Pieces.{HasRoom, ends_leaf, has_leaf_end, without_between};
 ghost use Rattle.r4_extent_demands.specs.Sizes.{IsSizedBody};
 
 use crate::parting::part_each;
 use crate::sized_body::SizedBody;
 use r4_base::{BLOCK_BYTES, Key, Memory, NodeId, UNPLACED};
-use r4_bodies::Heard;
-use r4_branch::{TwigPart, TwigPiece};
-use r4_cell::Cell;
-use r4_graft::{place_of, splice};
-use r4_leaf::KeyRange;
+use r4_bodies::{Cell, Heard, KeyRange};
+use r4_graft::{TwigPart, TwigPiece, place_of, splice};
 use std::alloc::Global;
 
 /// The pieces but for the pointers to those leaves that go.

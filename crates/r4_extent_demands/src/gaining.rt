@@ -5,16 +5,15 @@ ghost use Rattle.std.specs.List.{flat_map, list_any};
 ghost use Rattle.r4_base.specs.Key.{minor_of, offset_of, rank};
 ghost use Rattle.r4_content.specs.Edited.{is_between, put_keys};
 ghost use Rattle.r4_content.specs.Held.{edits_of, pair_of, run_pairs};
-ghost use Rattle.r4_leaf_edits.specs.r4_reach.Needs.{gets_bytes, is_met};
+ghost use Rattle.r4_bodies.specs.r4_leaf_edits.r4_reach.Needs.{gets_bytes, is_met};
 ghost use Rattle.r4_extent_demands.specs.Sizes.{IsSizedBody};
 ghost use Rattle.r4_extent_demands.specs.Pieces.{gets_among};
 
 use crate::keys::past_blocks;
 use crate::sized_body::SizedBody;
 use r4_base::{BLOCK_BYTES, Key, Value};
+use r4_bodies::{KeyRange, has, meets_fills, meets_runs};
 use r4_content::Edits;
-use r4_leaf::KeyRange;
-use r4_leaf_edits::{has, meets_fills, meets_runs};
 
 /// How many of so many blocks, from a key on, stand before the first one that gets bytes; all where none does. It is
 /// looked for by halves.

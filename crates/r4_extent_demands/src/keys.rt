@@ -2,7 +2,7 @@
 
 ghost use Rattle.std.specs.Prelude.{◌≡◌, ◌+◌, ◌*◌, ◌^◌, ◌≤◌};
 ghost use Rattle.r4_base.specs.Key.{minor_of, offset_of, rank};
-ghost use Rattle.r4_leaf_edits.specs.r4_reach.Reach.{is_body};
+ghost use Rattle.r4_bodies.specs.r4_leaf_edits.r4_reach.Reach.{is_body};
 
 use r4_base::{BLOCK_BYTES, Key};
 

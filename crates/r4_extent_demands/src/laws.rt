@@ -5,7 +5,7 @@ ghost use Rattle.r4_content.specs.Edited.{Pairs};
 ghost use Rattle.r4_content.specs.Fields.{HasBytePaths};
 ghost use Rattle.r4_content.specs.Seen.{Rises};
 ghost use Rattle.r4_content.specs.declared.command.Command.{Command};
-ghost use Rattle.r4_leaf_edits.specs.r4_reach.Touched.{body_on, edits_on};
+ghost use Rattle.r4_bodies.specs.r4_leaf_edits.r4_reach.Touched.{body_on, edits_on};
 ghost use Rattle.r4_bodies.specs.r4_suited.Suited.{AreLawfulSeen};
 ghost use Rattle.r4_extent_demands.specs.Sizes.{AreExtentEdits, IsSized};
 

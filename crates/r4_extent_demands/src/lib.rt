@@ -22,6 +22,11 @@ pub use laws::commands_of_extents_may_ask;
 pub use parting::part_each;
 pub use piecing::{comes_first, pieces_after};
 pub use putting::{keys_of, put_among};
-pub use r4_bodies::{POINTER_ROOM, all_more, growing, node_bytes, over};
+pub use r4_bodies::{
+    Asking, BodyChange, Cell, Demands, Heard, KeyRange, Marks, POINTER_ROOM, all_more,
+    body_changed, bytes_after, child_at, edits_of_leaf, growing, low_range, mark, meets_intervals,
+    node_bytes, over, part_of, pieces_of_cell, touches_leaf,
+};
+pub use r4_graft::{TwigPart, TwigPiece, place_of};
 pub use ranges::{Way, extents_have};
 pub use sized_body::SizedBody;

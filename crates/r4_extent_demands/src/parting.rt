@@ -9,7 +9,7 @@ ghost use Rattle.r4_graft.specs.Splices.{parted, parted_piece};
 ghost use Rattle.r4_extent_demands.specs.Pieces.{HasRoom};
 
 use r4_base::{BLOCK_BYTES, Key, Memory, Unit};
-use r4_branch::{TwigPart, TwigPiece};
+use r4_graft::{TwigPart, TwigPiece};
 use std::alloc::Global;
 
 /// Pieces of which each is parted in two where the key lies within its blocks: before the block that has the key.

@@ -4,24 +4,21 @@ ghost use Rattle.std.specs.Prelude.{◌≡◌, ◌*◌, ◌<◌, ◌≤◌, IfOk
 ghost use Rattle.std.specs.Option.{option_copied, option_map};
 ghost use Rattle.r4_base.specs.Key.{rank};
 ghost use Rattle.r4_base.specs.Node.{items_of};
-ghost use Rattle.r4_cell.specs.Seen.{node_of};
+ghost use Rattle.r4_bodies.specs.r4_cell.Seen.{node_of};
 ghost use Rattle.r4_content.specs.Held.{edits_of, interval_of};
-ghost use Rattle.r4_leaf.specs.Units.{leaf_bytes};
+ghost use Rattle.r4_bodies.specs.r4_leaf.Units.{leaf_bytes};
 ghost use Rattle.r4_bodies.specs.r4_leaf_demands.Touching.{span_of};
-ghost use Rattle.r4_leaf_edits.specs.Made.{spread_keys};
-ghost use Rattle.r4_leaf_edits.specs.r4_reach.Needs.{leaves_for, put_among};
+ghost use Rattle.r4_bodies.specs.r4_leaf_edits.Made.{spread_keys};
+ghost use Rattle.r4_bodies.specs.r4_leaf_edits.r4_reach.Needs.{leaves_for, put_among};
 ghost use Rattle.r4_extent_demands.specs.Putting.{leaves_in, put_into};
 ghost use Rattle.r4_extent_demands.specs.Sizes.{AreExtentEdits, IsSized};
 
 use crate::extents::extents_of;
 use crate::sized_body::SizedBody;
 use r4_base::{Block, LEAF, Memory};
-use r4_bodies::over;
-use r4_cell::Cell;
+use r4_bodies::{Cell, KeyRange, bytes_after, edits_of_leaf, over};
 use r4_content::{Edits, Interval};
-use r4_leaf::{KeyRange, bytes_after};
-use r4_leaf_edits::edits_of_leaf;
-use r4_node40::NodeMut;
+use r4_graft::NodeMut;
 use std::alloc::Global;
 
 /// How many pointers come for values that are put among the extents of a twig, and are no bytes of the body: those of

@@ -8,8 +8,8 @@ ghost use Rattle.r4_base.specs.Node.{items_of};
 ghost use Rattle.r4_content.specs.Edited.{is_between};
 ghost use Rattle.r4_content.specs.Held.{edits_of};
 ghost use Rattle.r4_bodies.specs.r4_leaf_demands.Touching.{span_of};
-ghost use Rattle.r4_node40.specs.View.{view_items};
-ghost use Rattle.r4_leaf_edits.specs.r4_reach.Reach.{is_body};
+ghost use Rattle.r4_graft.specs.r4_node40.View.{view_items};
+ghost use Rattle.r4_bodies.specs.r4_leaf_edits.r4_reach.Reach.{is_body};
 ghost use Rattle.r4_extent_demands.specs.Changing.{comes_in};
 ghost use Rattle.r4_extent_demands.specs.Ranges.{Holds, HoldsAt, HoldsIn, MayAsk, puts_into};
 ghost use Rattle.r4_extent_demands.specs.Sizes.{AreExtentEdits, IsSizedBody};
@@ -19,12 +19,9 @@ use crate::gaining::puts_in as puts_in_range;
 use crate::keys::is_of_body;
 use crate::sized_body::SizedBody;
 use r4_base::{Key, Value};
-use r4_bodies::intervals_have;
-use r4_cell::Cell;
+use r4_bodies::{Cell, KeyRange, has, intervals_have, meets_intervals};
 use r4_content::{Edits, Interval};
-use r4_leaf::KeyRange;
-use r4_leaf_edits::{has, meets_intervals};
-use r4_node40::NodeView;
+use r4_graft::NodeView;
 
 /// What is asked of the range of an extent (docs/volume.md, "Reach").
 #[derive(Clone, Copy)]

@@ -3,15 +3,15 @@
 ghost use Rattle.std.specs.Prelude.{◌≡◌, ◌+◌, ◌*◌, ◌^◌, ◌≤◌, ◌++◌, [], ◌∷◌, OnOk};
 ghost use Rattle.r4_base.specs.Key.{minor_of, offset_of, rank};
 ghost use Rattle.r4_content.specs.Held.{edits_of};
-ghost use Rattle.r4_leaf_edits.specs.r4_reach.Needs.{gets_bytes, runs};
+ghost use Rattle.r4_bodies.specs.r4_leaf_edits.r4_reach.Needs.{gets_bytes, runs};
 ghost use Rattle.r4_extent_demands.specs.Pieces.{block_at, hole_at};
 ghost use Rattle.r4_extent_demands.specs.Sizes.{IsSizedBody};
 
 use crate::gaining::blocks_before;
 use crate::sized_body::SizedBody;
 use r4_base::{BLOCK_BYTES, Key, Memory, UNPLACED, Unit};
-use r4_branch::{TwigPart, TwigPiece};
 use r4_content::Edits;
+use r4_graft::{TwigPart, TwigPiece};
 
 /// Puts so many blocks, from a key on, behind the other pieces: each that gets bytes is a unit of its own, of a new
 /// block, and what is between them is a hole.

@@ -6,16 +6,15 @@ ghost use Rattle.r4_base.specs.Key.{minor_of, offset_of, rank};
 ghost use Rattle.r4_base.specs.Volume.{blocks_for, object_of};
 ghost use Rattle.r4_content.specs.Edited.{is_between};
 ghost use Rattle.r4_content.specs.Held.{interval_of};
-ghost use Rattle.r4_leaf_edits.specs.Made.{spread_keys};
-ghost use Rattle.r4_leaf_edits.specs.r4_reach.Reach.{is_body};
-ghost use Rattle.r4_leaf_edits.specs.r4_reach.Touched.{Body, blocks_end, coming, first_byte, going, is_spread, turns_out};
+ghost use Rattle.r4_bodies.specs.r4_leaf_edits.Made.{spread_keys};
+ghost use Rattle.r4_bodies.specs.r4_leaf_edits.r4_reach.Reach.{is_body};
+ghost use Rattle.r4_bodies.specs.r4_leaf_edits.r4_reach.Touched.{Body, blocks_end, coming, first_byte, going, is_spread, turns_out};
 ghost use Rattle.r4_extent_demands.specs.Sizes.{IsFirstKey, IsSizedBody};
 
 use crate::keys::past_blocks;
 use r4_base::{BLOCK_BYTES, Key};
+use r4_bodies::{KeyRange, has};
 use r4_content::Interval;
-use r4_leaf::KeyRange;
-use r4_leaf_edits::has;
 use std::marker::Model;
 
 /// How many blocks the keys of a body span.
@@ -37,7 +36,7 @@ pub struct SizedBody {
 impl Model for SizedBody {
     ghost use Rattle.r4_base.specs.Key.{rank};
     ghost use Rattle.r4_base.specs.Volume.{object_of};
-    ghost use Rattle.r4_leaf_edits.specs.r4_reach.Touched.{Body};
+    ghost use Rattle.r4_bodies.specs.r4_leaf_edits.r4_reach.Touched.{Body};
 
     ghost Value = { Body };
 

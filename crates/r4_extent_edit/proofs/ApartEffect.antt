@@ -14,17 +14,17 @@ use Rattle.r4_base.specs.Key.{rank}
 use Rattle.r4_base.specs.Node.{Item}
 use Rattle.r4_base.specs.Tree.{IsNode, Root, Store}
 use Rattle.r4_base.specs.Value.{Value}
-use Rattle.r4_cell.specs.Seen.{CellSeen, node_of}
-use Rattle.r4_cell.specs.declared.change.Change.{Change}
-use Rattle.r4_cell.specs.declared.change.Fresh.{Fresh}
-use Rattle.r4_leaf.proofs.LeafItems.{spread}
-use Rattle.r4_leaf.proofs.Standing.{given_sound}
-use Rattle.r4_patch.specs.Effect.{Placed, in_leaf}
-use Rattle.r4_patch.proofs.Members.{cases, here, none}
-use Rattle.r4_path.specs.Grafts.{GraftsUp}
-use Rattle.r4_path.specs.Steps.{fresh_ids}
-use Rattle.r4_path.specs.TwigPieces.{put_pieces, twig_pieces}
-use Rattle.r4_edit.specs.Extents.{IsLeafPutIn, IsLeafPutUp, PutsLeafIn, PutsLeafUp, leaf_pointer}
+use Rattle.r4_work.specs.r4_cell.Seen.{CellSeen, node_of}
+use Rattle.r4_work.specs.r4_cell.declared.change.Change.{Change}
+use Rattle.r4_work.specs.r4_cell.declared.change.Fresh.{Fresh}
+use Rattle.r4_work.proofs.r4_leaf.LeafItems.{spread}
+use Rattle.r4_work.proofs.r4_leaf.Standing.{given_sound}
+use Rattle.r4_work.specs.r4_patch.Effect.{Placed, in_leaf}
+use Rattle.r4_work.proofs.r4_patch.Members.{cases, here, none}
+use Rattle.r4_work.specs.r4_path.Grafts.{GraftsUp}
+use Rattle.r4_work.specs.r4_path.Steps.{fresh_ids}
+use Rattle.r4_work.specs.r4_path.TwigPieces.{put_pieces, twig_pieces}
+use Rattle.r4_work.specs.r4_edit.Extents.{IsLeafPutIn, IsLeafPutUp, PutsLeafIn, PutsLeafUp, leaf_pointer}
 use Rattle.r4_work.specs.Remaking.{value_in}
 use Rattle.r4_work.proofs.UnitMembers.{rise_in, some_value, value_there}
 use Rattle.r4_extent_edit.specs.Effects.{EditsUnits, IsMadeIn, leaf_values, own_keys, patch_with}

@@ -5,20 +5,20 @@ use Rattle.std.specs.Prelude.{Contains}
 use Rattle.std.proofs.lemmas.List.Elements.{Contains-append_left, Contains-append_right}
 use Rattle.r4_base.specs.Key.{rank}
 use Rattle.r4_base.specs.Tree.{Name}
-use Rattle.r4_branch.specs.Pieces.{AreTwigPieces, Follow, names_of, next_of, part_names, piece_end, twig_bytes}
-use Rattle.r4_branch.specs.Pieces.{units_of}
-use Rattle.r4_branch.specs.declared.piece.TwigPart.{TwigPart}
-use Rattle.r4_branch.specs.declared.piece.TwigPart.TheVariants.{Pointer, Blocks}
-use Rattle.r4_branch.specs.declared.piece.TwigPiece.{TwigPiece}
-use Rattle.r4_graft.proofs.FoundPlaces.{next_lower}
-use Rattle.r4_graft.proofs.Joined.{follow_join, names_join, next_join, spliced_bytes}
-use Rattle.r4_graft.proofs.Placed.{first_member, has_end}
-use Rattle.r4_graft.proofs.SplicedNames.{spliced_names}
-use Rattle.r4_leaf.specs.Units.{cut_units, put_units}
-use Rattle.r4_edit.proofs.CutNames.{between_names, names_lie, units_without}
-use Rattle.r4_edit.proofs.CutOut.{nonempty}
-use Rattle.r4_edit.proofs.CutParts.{AreSplit}
-use Rattle.r4_edit.proofs.PutUnits.{units_among}
+use Rattle.r4_work.specs.r4_branch.Pieces.{AreTwigPieces, Follow, names_of, next_of, part_names, piece_end, twig_bytes}
+use Rattle.r4_work.specs.r4_branch.Pieces.{units_of}
+use Rattle.r4_work.specs.r4_branch.declared.piece.TwigPart.{TwigPart}
+use Rattle.r4_work.specs.r4_branch.declared.piece.TwigPart.TheVariants.{Pointer, Blocks}
+use Rattle.r4_work.specs.r4_branch.declared.piece.TwigPiece.{TwigPiece}
+use Rattle.r4_work.proofs.r4_graft.FoundPlaces.{next_lower}
+use Rattle.r4_work.proofs.r4_graft.Joined.{follow_join, names_join, next_join, spliced_bytes}
+use Rattle.r4_work.proofs.r4_graft.Placed.{first_member, has_end}
+use Rattle.r4_work.proofs.r4_graft.SplicedNames.{spliced_names}
+use Rattle.r4_work.specs.r4_leaf.Units.{cut_units, put_units}
+use Rattle.r4_work.proofs.r4_edit.CutNames.{between_names, names_lie, units_without}
+use Rattle.r4_work.proofs.r4_edit.CutOut.{nonempty}
+use Rattle.r4_work.proofs.r4_edit.CutParts.{AreSplit}
+use Rattle.r4_work.proofs.r4_edit.PutUnits.{units_among}
 
 -- ---- pieces before keys that no leaf has
 

@@ -12,24 +12,24 @@ use Rattle.r4_base.specs.Node.{mkfs_id_of}
 use Rattle.r4_base.specs.Tree.{Holds, InName, IsData, IsNode, Name, Root, Store}
 use Rattle.r4_base.specs.Value.{Value}
 use Rattle.r4_base.specs.declared.key.Key.{Key}
-use Rattle.r4_branch.specs.Pieces.{Follow, piece_end}
-use Rattle.r4_branch.specs.declared.piece.TwigPiece.{TwigPiece}
-use Rattle.r4_cell.specs.Seen.{CellSeen, node_of}
-use Rattle.r4_cell.specs.declared.change.Change.{Change}
-use Rattle.r4_cell.specs.declared.change.Fresh.{Fresh}
-use Rattle.r4_graft.proofs.Placed.{follow_end, has_end}
-use Rattle.r4_leaf.specs.Units.{cut_units, is_between}
-use Rattle.r4_patch.specs.Effect.{Placed}
-use Rattle.r4_patch.proofs.Holding.{find_name}
-use Rattle.r4_patch.proofs.Members.{cases, here, none}
-use Rattle.r4_path.specs.Grafts.{GraftsUp}
-use Rattle.r4_path.specs.Steps.{fresh_ids, name_of}
-use Rattle.r4_path.specs.TwigPieces.{ArePiecesOf, twig_pieces}
-use Rattle.r4_path.proofs.Rising.{in_cell, in_node, level_is}
-use Rattle.r4_edit.specs.CutBlocks.{BeginsAt, CutsIn, CutsUp, IsCutIn, IsCutUp, IsLeftOf, IsTakenUp, cut_pieces}
-use Rattle.r4_edit.specs.CutBlocks.{end_key, new_pointer, numbers_for, parted_twice, pieces_between}
-use Rattle.r4_edit.specs.Extents.{given_cells}
-use Rattle.r4_edit.proofs.CutParts.{split}
+use Rattle.r4_work.specs.r4_branch.Pieces.{Follow, piece_end}
+use Rattle.r4_work.specs.r4_branch.declared.piece.TwigPiece.{TwigPiece}
+use Rattle.r4_work.specs.r4_cell.Seen.{CellSeen, node_of}
+use Rattle.r4_work.specs.r4_cell.declared.change.Change.{Change}
+use Rattle.r4_work.specs.r4_cell.declared.change.Fresh.{Fresh}
+use Rattle.r4_work.proofs.r4_graft.Placed.{follow_end, has_end}
+use Rattle.r4_work.specs.r4_leaf.Units.{cut_units, is_between}
+use Rattle.r4_work.specs.r4_patch.Effect.{Placed}
+use Rattle.r4_work.proofs.r4_patch.Holding.{find_name}
+use Rattle.r4_work.proofs.r4_patch.Members.{cases, here, none}
+use Rattle.r4_work.specs.r4_path.Grafts.{GraftsUp}
+use Rattle.r4_work.specs.r4_path.Steps.{fresh_ids, name_of}
+use Rattle.r4_work.specs.r4_path.TwigPieces.{ArePiecesOf, twig_pieces}
+use Rattle.r4_work.proofs.r4_path.Rising.{in_cell, in_node, level_is}
+use Rattle.r4_work.specs.r4_edit.CutBlocks.{BeginsAt, CutsIn, CutsUp, IsCutIn, IsCutUp, IsLeftOf, IsTakenUp, cut_pieces}
+use Rattle.r4_work.specs.r4_edit.CutBlocks.{end_key, new_pointer, numbers_for, parted_twice, pieces_between}
+use Rattle.r4_work.specs.r4_edit.Extents.{given_cells}
+use Rattle.r4_work.proofs.r4_edit.CutParts.{split}
 use Rattle.r4_work.proofs.UnitMembers.{between}
 use Rattle.r4_extent_edit.specs.Effects.{EditsUnits, IsMadeIn, MayStandUp, no_values, patch_with}
 use Rattle.r4_extent_edit.proofs.ExtentEffect.{both_ways, is_off, is_on}

@@ -6,14 +6,14 @@ use Rattle.r4_base.specs.Key.{offset_of, rank, later}
 use Rattle.r4_base.specs.Node.{Item}
 use Rattle.r4_base.specs.declared.items.Unit.{Unit as ExtentUnit}
 use Rattle.r4_base.specs.declared.key.Key.{Key}
-use Rattle.r4_branch.specs.Pieces.{item_pieces, unit_pieces}
-use Rattle.r4_branch.specs.declared.piece.TwigPart.TheVariants.{Blocks}
-use Rattle.r4_branch.specs.declared.piece.TwigPiece.{TwigPiece}
-use Rattle.r4_branch.proofs.ItemPieces.{extent_pieces}
-use Rattle.r4_branch.proofs.SoundItems.{extent_item}
-use Rattle.r4_branch.proofs.UnitPieces.{rank_later}
-use Rattle.r4_edit.specs.Extents.{IsGivenExtent}
-use Rattle.r4_edit.proofs.OverPieces.{item_some}
+use Rattle.r4_work.specs.r4_branch.Pieces.{item_pieces, unit_pieces}
+use Rattle.r4_work.specs.r4_branch.declared.piece.TwigPart.TheVariants.{Blocks}
+use Rattle.r4_work.specs.r4_branch.declared.piece.TwigPiece.{TwigPiece}
+use Rattle.r4_work.proofs.r4_branch.ItemPieces.{extent_pieces}
+use Rattle.r4_work.proofs.r4_branch.SoundItems.{extent_item}
+use Rattle.r4_work.proofs.r4_branch.UnitPieces.{rank_later}
+use Rattle.r4_work.specs.r4_edit.Extents.{IsGivenExtent}
+use Rattle.r4_work.proofs.r4_edit.OverPieces.{item_some}
 use Rattle.r4_extent_edit.specs.Between.{EndsAt, HasKeyBehind}
 
 units_end : (k : Key) (n : ℕ) (u : ExtentUnit) (us : List ExtentUnit)

@@ -14,24 +14,24 @@ use Rattle.r4_base.specs.Key.{rank}
 use Rattle.r4_base.specs.Node.{Item}
 use Rattle.r4_base.specs.Tree.{Root, Store}
 use Rattle.r4_base.specs.Value.{Value}
-use Rattle.r4_branch.specs.Pieces.{units_of}
-use Rattle.r4_branch.specs.declared.piece.TwigPiece.{TwigPiece}
-use Rattle.r4_branch.proofs.SoundItems.{extent_item}
-use Rattle.r4_cell.proofs.ItemRows.{extent_row}
-use Rattle.r4_cell.specs.Seen.{CellSeen, node_of}
-use Rattle.r4_cell.specs.declared.change.Change.{Change}
-use Rattle.r4_cell.specs.declared.change.Fresh.{Fresh}
-use Rattle.r4_leaf.specs.Units.{LeafUnit, is_between, put_units}
-use Rattle.r4_patch.specs.Effect.{HasEffect, Placed, in_extent}
-use Rattle.r4_patch.proofs.Members.{distinct, there}
-use Rattle.r4_path.specs.Grafts.{AreBlocksOf}
-use Rattle.r4_path.specs.Levels.{units_of_cells}
-use Rattle.r4_path.specs.Steps.{name_of}
-use Rattle.r4_path.specs.Twigs.{Below}
-use Rattle.r4_path.proofs.Grown.{map_names}
-use Rattle.r4_path.proofs.Rising.{hi_is, lo_is}
-use Rattle.r4_edit.specs.Extents.{IsGivenExtent, item_blocks}
-use Rattle.r4_edit.proofs.Spread.{extent_level}
+use Rattle.r4_work.specs.r4_branch.Pieces.{units_of}
+use Rattle.r4_work.specs.r4_branch.declared.piece.TwigPiece.{TwigPiece}
+use Rattle.r4_work.proofs.r4_branch.SoundItems.{extent_item}
+use Rattle.r4_work.proofs.r4_cell.ItemRows.{extent_row}
+use Rattle.r4_work.specs.r4_cell.Seen.{CellSeen, node_of}
+use Rattle.r4_work.specs.r4_cell.declared.change.Change.{Change}
+use Rattle.r4_work.specs.r4_cell.declared.change.Fresh.{Fresh}
+use Rattle.r4_work.specs.r4_leaf.Units.{LeafUnit, is_between, put_units}
+use Rattle.r4_work.specs.r4_patch.Effect.{HasEffect, Placed, in_extent}
+use Rattle.r4_work.proofs.r4_patch.Members.{distinct, there}
+use Rattle.r4_work.specs.r4_path.Grafts.{AreBlocksOf}
+use Rattle.r4_work.specs.r4_path.Levels.{units_of_cells}
+use Rattle.r4_work.specs.r4_path.Steps.{name_of}
+use Rattle.r4_work.specs.r4_path.Twigs.{Below}
+use Rattle.r4_work.proofs.r4_path.Grown.{map_names}
+use Rattle.r4_work.proofs.r4_path.Rising.{hi_is, lo_is}
+use Rattle.r4_work.specs.r4_edit.Extents.{IsGivenExtent, item_blocks}
+use Rattle.r4_work.proofs.r4_edit.Spread.{extent_level}
 use Rattle.r4_work.specs.Remaking.{value_in}
 use Rattle.r4_work.proofs.LeafEffect.{from_units, to_units}
 use Rattle.r4_work.proofs.UnitMembers.{between, from_put, some_value, to_put, value_there}

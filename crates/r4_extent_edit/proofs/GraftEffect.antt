@@ -11,27 +11,27 @@ use Rattle.std.proofs.lemmas.Option.{none-some, same_Some}
 use Rattle.r4_base.specs.Key.{rank}
 use Rattle.r4_base.specs.Tree.{Holds, Node, Root, Store, UnitAt}
 use Rattle.r4_base.specs.Value.{Value}
-use Rattle.r4_branch.specs.Pieces.{units_of}
-use Rattle.r4_branch.specs.declared.piece.TwigPiece.{TwigPiece}
-use Rattle.r4_cell.specs.Patch.{HaveNames, Patch, by_name, place, root_after}
-use Rattle.r4_cell.specs.Seen.{CellSeen, node_of}
-use Rattle.r4_cell.specs.declared.change.Change.{Change}
-use Rattle.r4_cell.specs.declared.change.Fresh.{Fresh}
-use Rattle.r4_cell.specs.declared.change.Root.{Root as RootPair}
-use Rattle.r4_leaf.specs.Units.{LeafUnit}
-use Rattle.r4_patch.specs.Effect.{HasEffect, Placed, UnitIn}
-use Rattle.r4_patch.specs.Joining.{ids_of}
-use Rattle.r4_patch.specs.Part.{IsPart}
-use Rattle.r4_patch.proofs.Holding.{one_holder, unit_held, unit_once}
-use Rattle.r4_patch.proofs.Members.{Distinct, cases, distinct, found, here, later, none, there}
-use Rattle.r4_patch.proofs.Placed.{over_new, placed_part}
-use Rattle.r4_path.specs.Grafts.{Grafts, HasBelow}
-use Rattle.r4_path.specs.Levels.{units_of_cells}
-use Rattle.r4_path.specs.Nodes.{IsPointable}
-use Rattle.r4_path.specs.Steps.{Ascends, Step, fresh_ids, news, olds, root_pair}
-use Rattle.r4_path.specs.Twigs.{Below}
-use Rattle.r4_path.proofs.OnPath.{new_id, new_stands, stands_old, stands_step}
-use Rattle.r4_path.proofs.Rising.{count_within, follow_within, id_member, level_is}
+use Rattle.r4_work.specs.r4_branch.Pieces.{units_of}
+use Rattle.r4_work.specs.r4_branch.declared.piece.TwigPiece.{TwigPiece}
+use Rattle.r4_work.specs.r4_cell.Patch.{HaveNames, Patch, by_name, place, root_after}
+use Rattle.r4_work.specs.r4_cell.Seen.{CellSeen, node_of}
+use Rattle.r4_work.specs.r4_cell.declared.change.Change.{Change}
+use Rattle.r4_work.specs.r4_cell.declared.change.Fresh.{Fresh}
+use Rattle.r4_work.specs.r4_cell.declared.change.Root.{Root as RootPair}
+use Rattle.r4_work.specs.r4_leaf.Units.{LeafUnit}
+use Rattle.r4_work.specs.r4_patch.Effect.{HasEffect, Placed, UnitIn}
+use Rattle.r4_work.specs.r4_patch.Joining.{ids_of}
+use Rattle.r4_work.specs.r4_patch.Part.{IsPart}
+use Rattle.r4_work.proofs.r4_patch.Holding.{one_holder, unit_held, unit_once}
+use Rattle.r4_work.proofs.r4_patch.Members.{Distinct, cases, distinct, found, here, later, none, there}
+use Rattle.r4_work.proofs.r4_patch.Placed.{over_new, placed_part}
+use Rattle.r4_work.specs.r4_path.Grafts.{Grafts, HasBelow}
+use Rattle.r4_work.specs.r4_path.Levels.{units_of_cells}
+use Rattle.r4_work.specs.r4_path.Nodes.{IsPointable}
+use Rattle.r4_work.specs.r4_path.Steps.{Ascends, Step, fresh_ids, news, olds, root_pair}
+use Rattle.r4_work.specs.r4_path.Twigs.{Below}
+use Rattle.r4_work.proofs.r4_path.OnPath.{new_id, new_stands, stands_old, stands_step}
+use Rattle.r4_work.proofs.r4_path.Rising.{count_within, follow_within, id_member, level_is}
 use Rattle.r4_work.proofs.LeafEffect.{from_units, taken, to_units, upper_units, ups_high}
 use Rattle.r4_extent_edit.specs.Effects.{IsMadeIn, patch_with}
 

@@ -7,24 +7,24 @@ use Rattle.r4_base.specs.Key.{rank}
 use Rattle.r4_base.specs.Node.{Item}
 use Rattle.r4_base.specs.Tree.{Name, Root, Store}
 use Rattle.r4_base.specs.Value.{Value}
-use Rattle.r4_branch.specs.Pieces.{AreTwigPieces, Follow, item_pieces, names_of, next_of, twig_bytes, units_of}
-use Rattle.r4_branch.specs.declared.piece.TwigPiece.{TwigPiece}
-use Rattle.r4_branch.proofs.ItemPieces.{bytes_of_item, follow_item, names_of_item, next_of_item, units_of_item}
-use Rattle.r4_cell.specs.Seen.{CellSeen, node_of}
-use Rattle.r4_cell.specs.declared.change.Change.{Change}
-use Rattle.r4_cell.specs.declared.change.Fresh.{Fresh}
-use Rattle.r4_graft.proofs.Placed.{not_in_none}
-use Rattle.r4_leaf.specs.Units.{cut_units, put_units}
-use Rattle.r4_patch.proofs.Members.{have_names}
-use Rattle.r4_path.specs.Grafts.{AreBlocksOf, GraftsBelow, IsGraftBelow, IsGraftBelowIn, IsGraftBelowUp, IsGraftIn}
-use Rattle.r4_path.specs.Grafts.{IsGraftOf, IsGraftedIn, IsGraftedUp}
-use Rattle.r4_path.specs.Steps.{IsNameOf}
-use Rattle.r4_path.specs.TwigPieces.{ArePiecesOf, twig_pieces}
-use Rattle.r4_path.proofs.LastCell.{last_up, up_last, up_some}
-use Rattle.r4_edit.specs.CutBlocks.{parted_twice, pieces_behind, pieces_below, pieces_between}
-use Rattle.r4_edit.specs.Extents.{item_blocks}
-use Rattle.r4_edit.proofs.CutParts.{AreSplit, split, twice_bytes, twice_follow, twice_names, twice_next, twice_units}
-use Rattle.r4_edit.proofs.Spread.{extent_level, extent_names, nothing}
+use Rattle.r4_work.specs.r4_branch.Pieces.{AreTwigPieces, Follow, item_pieces, names_of, next_of, twig_bytes, units_of}
+use Rattle.r4_work.specs.r4_branch.declared.piece.TwigPiece.{TwigPiece}
+use Rattle.r4_work.proofs.r4_branch.ItemPieces.{bytes_of_item, follow_item, names_of_item, next_of_item, units_of_item}
+use Rattle.r4_work.specs.r4_cell.Seen.{CellSeen, node_of}
+use Rattle.r4_work.specs.r4_cell.declared.change.Change.{Change}
+use Rattle.r4_work.specs.r4_cell.declared.change.Fresh.{Fresh}
+use Rattle.r4_work.proofs.r4_graft.Placed.{not_in_none}
+use Rattle.r4_work.specs.r4_leaf.Units.{cut_units, put_units}
+use Rattle.r4_work.proofs.r4_patch.Members.{have_names}
+use Rattle.r4_work.specs.r4_path.Grafts.{AreBlocksOf, GraftsBelow, IsGraftBelow, IsGraftBelowIn, IsGraftBelowUp, IsGraftIn}
+use Rattle.r4_work.specs.r4_path.Grafts.{IsGraftOf, IsGraftedIn, IsGraftedUp}
+use Rattle.r4_work.specs.r4_path.Steps.{IsNameOf}
+use Rattle.r4_work.specs.r4_path.TwigPieces.{ArePiecesOf, twig_pieces}
+use Rattle.r4_work.proofs.r4_path.LastCell.{last_up, up_last, up_some}
+use Rattle.r4_work.specs.r4_edit.CutBlocks.{parted_twice, pieces_behind, pieces_below, pieces_between}
+use Rattle.r4_work.specs.r4_edit.Extents.{item_blocks}
+use Rattle.r4_work.proofs.r4_edit.CutParts.{AreSplit, split, twice_bytes, twice_follow, twice_names, twice_next, twice_units}
+use Rattle.r4_work.proofs.r4_edit.Spread.{extent_level, extent_names, nothing}
 use Rattle.r4_extent_edit.specs.Setting.{AreHoles, IsSetIn, IsSetUp, SetsUp, set_pieces}
 use Rattle.r4_extent_edit.proofs.Between.{over_bytes, over_names, over_twigs, over_units}
 

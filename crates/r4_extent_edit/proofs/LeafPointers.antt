@@ -4,17 +4,17 @@ use Rattle.std.specs.Prelude.{Contains}
 use Rattle.std.proofs.lemmas.List.Elements.{Contains-append_cases, Contains-append_left}
 use Rattle.r4_base.specs.Key.{rank}
 use Rattle.r4_base.specs.Tree.{Name}
-use Rattle.r4_branch.specs.Pieces.{Follow, names_of, next_of, part_end, part_names, part_units, piece_end, units_of}
-use Rattle.r4_branch.specs.declared.piece.TwigPart.TheVariants.{Pointer}
-use Rattle.r4_branch.specs.declared.piece.TwigPiece.{TwigPiece}
-use Rattle.r4_cell.specs.Seen.{CellSeen}
-use Rattle.r4_graft.proofs.FoundPlaces.{find_pointer}
-use Rattle.r4_graft.proofs.Joined.{end_of, follow_parts, names_join}
-use Rattle.r4_graft.proofs.Placed.{follow_end, has_end}
-use Rattle.r4_graft.proofs.SplicedNames.{names_begin}
-use Rattle.r4_patch.proofs.Members.{cases, here, later, none}
-use Rattle.r4_path.specs.Steps.{Follow as FollowCells, name_of}
-use Rattle.r4_path.proofs.Rising.{follow_within}
+use Rattle.r4_work.specs.r4_branch.Pieces.{Follow, names_of, next_of, part_end, part_names, part_units, piece_end, units_of}
+use Rattle.r4_work.specs.r4_branch.declared.piece.TwigPart.TheVariants.{Pointer}
+use Rattle.r4_work.specs.r4_branch.declared.piece.TwigPiece.{TwigPiece}
+use Rattle.r4_work.specs.r4_cell.Seen.{CellSeen}
+use Rattle.r4_work.proofs.r4_graft.FoundPlaces.{find_pointer}
+use Rattle.r4_work.proofs.r4_graft.Joined.{end_of, follow_parts, names_join}
+use Rattle.r4_work.proofs.r4_graft.Placed.{follow_end, has_end}
+use Rattle.r4_work.proofs.r4_graft.SplicedNames.{names_begin}
+use Rattle.r4_work.proofs.r4_patch.Members.{cases, here, later, none}
+use Rattle.r4_work.specs.r4_path.Steps.{Follow as FollowCells, name_of}
+use Rattle.r4_work.proofs.r4_path.Rising.{follow_within}
 
 -- The pieces point to these leaves, one after the other, and the next one begins at a key.
 pub record HasPointers (hi : ℕ) (ps : List TwigPiece) (leaf : CellSeen) (more : List CellSeen) (end : ℕ) : Type 0 where

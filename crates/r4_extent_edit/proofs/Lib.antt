@@ -15,3 +15,5 @@ pub mod OverEffect
 pub mod ApartEffect
 pub mod TurnEnds
 pub mod Told
+-- what crates above name by way of this one
+pub use Rattle.r4_work.proofs.r4_cell

@@ -12,17 +12,17 @@ use Rattle.r4_base.specs.Key.{rank}
 use Rattle.r4_base.specs.Node.{Item}
 use Rattle.r4_base.specs.Tree.{Root, Store}
 use Rattle.r4_base.specs.Value.{Value}
-use Rattle.r4_branch.proofs.Filled.{item_has_end}
-use Rattle.r4_cell.specs.Seen.{CellSeen, node_of}
-use Rattle.r4_cell.specs.declared.change.Change.{Change}
-use Rattle.r4_cell.specs.declared.change.Fresh.{Fresh}
-use Rattle.r4_patch.proofs.Members.{cases, here, none}
-use Rattle.r4_path.specs.Grafts.{AreBlocksOf, GraftsUp}
-use Rattle.r4_path.specs.Steps.{name_of}
-use Rattle.r4_path.proofs.Rising.{hi_is, lo_is}
-use Rattle.r4_edit.specs.Extents.{IsOverIn, IsOverUp, PutsOverIn, PutsOverUp, given_cells, item_blocks, over_pieces}
-use Rattle.r4_edit.specs.LeafParts.{HasRight, right_id, right_takes}
-use Rattle.r4_path.specs.TwigPieces.{twig_pieces}
+use Rattle.r4_work.proofs.r4_branch.Filled.{item_has_end}
+use Rattle.r4_work.specs.r4_cell.Seen.{CellSeen, node_of}
+use Rattle.r4_work.specs.r4_cell.declared.change.Change.{Change}
+use Rattle.r4_work.specs.r4_cell.declared.change.Fresh.{Fresh}
+use Rattle.r4_work.proofs.r4_patch.Members.{cases, here, none}
+use Rattle.r4_work.specs.r4_path.Grafts.{AreBlocksOf, GraftsUp}
+use Rattle.r4_work.specs.r4_path.Steps.{name_of}
+use Rattle.r4_work.proofs.r4_path.Rising.{hi_is, lo_is}
+use Rattle.r4_work.specs.r4_edit.Extents.{IsOverIn, IsOverUp, PutsOverIn, PutsOverUp, given_cells, item_blocks, over_pieces}
+use Rattle.r4_work.specs.r4_edit.LeafParts.{HasRight, right_id, right_takes}
+use Rattle.r4_work.specs.r4_path.TwigPieces.{twig_pieces}
 use Rattle.r4_extent_edit.specs.Effects.{EditsUnits, IsMadeIn, extent_values, item_keys, patch_with}
 use Rattle.r4_extent_edit.specs.Turning.{AreAround, AreBeside}
 use Rattle.r4_extent_edit.proofs.GraftEffect.{IsRepacked, below_there, graft_root}

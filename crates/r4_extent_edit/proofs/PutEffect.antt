@@ -8,18 +8,18 @@ use Rattle.r4_base.specs.Key.{rank}
 use Rattle.r4_base.specs.Node.{Item}
 use Rattle.r4_base.specs.Tree.{Holds, InName, IsNode, Name, Root, Store}
 use Rattle.r4_base.specs.Value.{Value}
-use Rattle.r4_branch.specs.Pieces.{units_of}
-use Rattle.r4_branch.specs.declared.piece.TwigPiece.{TwigPiece}
-use Rattle.r4_cell.specs.Seen.{CellSeen, node_of}
-use Rattle.r4_cell.specs.declared.change.Change.{Change}
-use Rattle.r4_cell.specs.declared.change.Fresh.{Fresh}
-use Rattle.r4_leaf.specs.Units.{LeafUnit, cut_units, is_between, put_units}
-use Rattle.r4_patch.specs.Effect.{Placed}
-use Rattle.r4_patch.proofs.Members.{none}
-use Rattle.r4_path.specs.Grafts.{AreBlocksOf, GraftsUp}
-use Rattle.r4_path.proofs.Rising.{in_node, level_is}
-use Rattle.r4_edit.specs.Extents.{AreAmongExtents, IsGivenExtent, IsSpreadUp, SpreadsUp, item_blocks}
-use Rattle.r4_edit.proofs.Spread.{nothing}
+use Rattle.r4_work.specs.r4_branch.Pieces.{units_of}
+use Rattle.r4_work.specs.r4_branch.declared.piece.TwigPiece.{TwigPiece}
+use Rattle.r4_work.specs.r4_cell.Seen.{CellSeen, node_of}
+use Rattle.r4_work.specs.r4_cell.declared.change.Change.{Change}
+use Rattle.r4_work.specs.r4_cell.declared.change.Fresh.{Fresh}
+use Rattle.r4_work.specs.r4_leaf.Units.{LeafUnit, cut_units, is_between, put_units}
+use Rattle.r4_work.specs.r4_patch.Effect.{Placed}
+use Rattle.r4_work.proofs.r4_patch.Members.{none}
+use Rattle.r4_work.specs.r4_path.Grafts.{AreBlocksOf, GraftsUp}
+use Rattle.r4_work.proofs.r4_path.Rising.{in_node, level_is}
+use Rattle.r4_work.specs.r4_edit.Extents.{AreAmongExtents, IsGivenExtent, IsSpreadUp, SpreadsUp, item_blocks}
+use Rattle.r4_work.proofs.r4_edit.Spread.{nothing}
 use Rattle.r4_work.proofs.UnitMembers.{filtered, not_false, not_true, to_filtered}
 use Rattle.r4_extent_edit.specs.Effects.{EditsUnits, IsMadeIn, extent_values, item_keys}
 use Rattle.r4_extent_edit.specs.Setting.{IsSetUp, SetsUp}

@@ -12,22 +12,22 @@ use Rattle.r4_base.specs.Node.{Item, items_of}
 use Rattle.r4_base.specs.Tree.{IsData, Name, Span}
 use Rattle.r4_base.specs.declared.items.Unit.{Unit as ExtentUnit}
 use Rattle.r4_base.specs.declared.key.Key.{Key}
-use Rattle.r4_branch.specs.Items.{IsSoundItem, Lie}
-use Rattle.r4_branch.specs.Pieces.{Follow, MayStand, item_pieces, piece_end, pieces_in, unit_pieces}
-use Rattle.r4_branch.specs.declared.piece.TwigPart.TheVariants.{Blocks}
-use Rattle.r4_branch.specs.declared.piece.TwigPiece.{TwigPiece}
-use Rattle.r4_branch.proofs.ItemPieces.{bytes_of_twig, extent_pieces, follow_item, follow_items, names_of_twig}
-use Rattle.r4_branch.proofs.ItemPieces.{next_of_items, pieces_of_twig, units_of_twig}
-use Rattle.r4_branch.proofs.Standing.{stand_lie}
-use Rattle.r4_branch.proofs.UnitPieces.{rank_later}
-use Rattle.r4_cell.specs.Seen.{CellSeen, node_of}
-use Rattle.r4_graft.specs.Splices.{IsBorder}
-use Rattle.r4_graft.proofs.Placed.{first_or_later, follow_end, has_end, not_in_none}
-use Rattle.r4_path.specs.Sharing.{IsSound}
-use Rattle.r4_path.specs.TwigPieces.{ArePiecesOf, twig_pieces}
-use Rattle.r4_path.proofs.CellNodes.{names_are, spans_are, units_are}
-use Rattle.r4_path.proofs.Rising.{hi_is, level_is, lo_is}
-use Rattle.r4_edit.proofs.CutParts.{follow_from}
+use Rattle.r4_work.specs.r4_branch.Items.{IsSoundItem, Lie}
+use Rattle.r4_work.specs.r4_branch.Pieces.{Follow, MayStand, item_pieces, piece_end, pieces_in, unit_pieces}
+use Rattle.r4_work.specs.r4_branch.declared.piece.TwigPart.TheVariants.{Blocks}
+use Rattle.r4_work.specs.r4_branch.declared.piece.TwigPiece.{TwigPiece}
+use Rattle.r4_work.proofs.r4_branch.ItemPieces.{bytes_of_twig, extent_pieces, follow_item, follow_items, names_of_twig}
+use Rattle.r4_work.proofs.r4_branch.ItemPieces.{next_of_items, pieces_of_twig, units_of_twig}
+use Rattle.r4_work.proofs.r4_branch.Standing.{stand_lie}
+use Rattle.r4_work.proofs.r4_branch.UnitPieces.{rank_later}
+use Rattle.r4_work.specs.r4_cell.Seen.{CellSeen, node_of}
+use Rattle.r4_work.specs.r4_graft.Splices.{IsBorder}
+use Rattle.r4_work.proofs.r4_graft.Placed.{first_or_later, follow_end, has_end, not_in_none}
+use Rattle.r4_work.specs.r4_path.Sharing.{IsSound}
+use Rattle.r4_work.specs.r4_path.TwigPieces.{ArePiecesOf, twig_pieces}
+use Rattle.r4_work.proofs.r4_path.CellNodes.{names_are, spans_are, units_are}
+use Rattle.r4_work.proofs.r4_path.Rising.{hi_is, level_is, lo_is}
+use Rattle.r4_work.proofs.r4_edit.CutParts.{follow_from}
 use Rattle.r4_extent_edit.specs.Setting.{AreHoles}
 use Rattle.r4_extent_edit.specs.Spans.{AreOfSpan, AreWholeBlocks, IsSpanBorder}
 use Rattle.r4_extent_edit.proofs.WholeBlocks.{whole_blocks}

@@ -13,19 +13,19 @@ use Rattle.r4_base.specs.Node.{Item}
 use Rattle.r4_base.specs.Tree.{IsData, IsNode, Root, Store}
 use Rattle.r4_base.specs.Value.{Value}
 use Rattle.r4_base.specs.declared.key.Key.{Key}
-use Rattle.r4_branch.specs.Pieces.{units_of}
-use Rattle.r4_branch.specs.declared.piece.TwigPiece.{TwigPiece}
-use Rattle.r4_cell.specs.Seen.{CellSeen, node_of}
-use Rattle.r4_cell.specs.declared.change.Change.{Change}
-use Rattle.r4_cell.specs.declared.change.Fresh.{Fresh}
-use Rattle.r4_leaf.specs.Units.{LeafUnit, put_units}
-use Rattle.r4_patch.specs.Effect.{HasEffect, Placed}
-use Rattle.r4_patch.proofs.Members.{cases, here, none}
-use Rattle.r4_path.specs.Grafts.{AreBlocksOf, GraftsUp}
-use Rattle.r4_path.specs.Steps.{Follow as FollowCells, fresh_ids, name_of}
-use Rattle.r4_path.proofs.Rising.{InCell, follow_covers, follow_within, in_cell, in_node, level_is}
-use Rattle.r4_edit.specs.Extents.{IsGivenExtent, given_cells, item_blocks}
-use Rattle.r4_edit.specs.LeafParts.{HasLeft, HasRight, first_from, units_below, units_from}
+use Rattle.r4_work.specs.r4_branch.Pieces.{units_of}
+use Rattle.r4_work.specs.r4_branch.declared.piece.TwigPiece.{TwigPiece}
+use Rattle.r4_work.specs.r4_cell.Seen.{CellSeen, node_of}
+use Rattle.r4_work.specs.r4_cell.declared.change.Change.{Change}
+use Rattle.r4_work.specs.r4_cell.declared.change.Fresh.{Fresh}
+use Rattle.r4_work.specs.r4_leaf.Units.{LeafUnit, put_units}
+use Rattle.r4_work.specs.r4_patch.Effect.{HasEffect, Placed}
+use Rattle.r4_work.proofs.r4_patch.Members.{cases, here, none}
+use Rattle.r4_work.specs.r4_path.Grafts.{AreBlocksOf, GraftsUp}
+use Rattle.r4_work.specs.r4_path.Steps.{Follow as FollowCells, fresh_ids, name_of}
+use Rattle.r4_work.proofs.r4_path.Rising.{InCell, follow_covers, follow_within, in_cell, in_node, level_is}
+use Rattle.r4_work.specs.r4_edit.Extents.{IsGivenExtent, given_cells, item_blocks}
+use Rattle.r4_work.specs.r4_edit.LeafParts.{HasLeft, HasRight, first_from, units_below, units_from}
 use Rattle.r4_work.proofs.UnitMembers.{filtered, to_filtered}
 use Rattle.r4_extent_edit.specs.Effects.{EditsUnits, IsMadeIn, extent_values, item_keys, patch_with}
 use Rattle.r4_extent_edit.specs.Turning.{AreAround, AreBeside, IsTurnIn, IsTurnUp, TurnsIn, TurnsUp, key_of_end}

@@ -11,17 +11,17 @@ use Rattle.r4_base.specs.Tree.{Root, Store}
 use Rattle.r4_base.specs.Value.{Value}
 use Rattle.r4_base.specs.declared.items.Unit.{Unit as ExtentUnit}
 use Rattle.r4_base.specs.declared.key.Key.{Key}
-use Rattle.r4_branch.specs.declared.piece.TwigPart.{TwigPart}
-use Rattle.r4_branch.specs.declared.piece.TwigPart.TheVariants.{Pointer, Blocks}
-use Rattle.r4_branch.specs.declared.piece.TwigPiece.{TwigPiece}
-use Rattle.r4_branch.proofs.UnitPieces.{rank_later}
-use Rattle.r4_cell.specs.Seen.{CellSeen, node_of}
-use Rattle.r4_cell.specs.declared.change.Fresh.{Fresh}
-use Rattle.r4_edit.specs.Extents.{IsGivenExtent}
-use Rattle.r4_edit.specs.LeafParts.{first_from}
-use Rattle.r4_leaf.specs.Units.{LeafUnit}
-use Rattle.r4_patch.proofs.Members.{here, later as further}
-use Rattle.r4_path.proofs.Rising.{follow_within, hi_is}
+use Rattle.r4_work.specs.r4_branch.declared.piece.TwigPart.{TwigPart}
+use Rattle.r4_work.specs.r4_branch.declared.piece.TwigPart.TheVariants.{Pointer, Blocks}
+use Rattle.r4_work.specs.r4_branch.declared.piece.TwigPiece.{TwigPiece}
+use Rattle.r4_work.proofs.r4_branch.UnitPieces.{rank_later}
+use Rattle.r4_work.specs.r4_cell.Seen.{CellSeen, node_of}
+use Rattle.r4_work.specs.r4_cell.declared.change.Fresh.{Fresh}
+use Rattle.r4_work.specs.r4_edit.Extents.{IsGivenExtent}
+use Rattle.r4_work.specs.r4_edit.LeafParts.{first_from}
+use Rattle.r4_work.specs.r4_leaf.Units.{LeafUnit}
+use Rattle.r4_work.proofs.r4_patch.Members.{here, later as further}
+use Rattle.r4_work.proofs.r4_path.Rising.{follow_within, hi_is}
 use Rattle.r4_extent_edit.specs.Between.{EndsAt, HasKeyBehind}
 use Rattle.r4_extent_edit.specs.Setting.{IsSetUp}
 use Rattle.r4_extent_edit.specs.Turning.{AreEnds, IsAround, IsTurnUp, last_leaf}

@@ -11,33 +11,33 @@ use Rattle.r4_base.specs.Node.{Item}
 use Rattle.r4_base.specs.Tree.{IsNode, Name, Node, Root, Store}
 use Rattle.r4_base.specs.Value.{Value}
 use Rattle.r4_base.specs.declared.key.Key.{Key}
-use Rattle.r4_branch.specs.Pieces.{names_of, next_of}
-use Rattle.r4_branch.specs.declared.piece.TwigPiece.{TwigPiece}
-use Rattle.r4_branch.proofs.SoundItems.{extent_item}
-use Rattle.r4_branch.proofs.UnitPieces.{rank_later}
-use Rattle.r4_cell.specs.Patch.{HaveNames}
-use Rattle.r4_cell.specs.Seen.{CellSeen, node_of}
-use Rattle.r4_cell.specs.declared.change.Change.{Change}
-use Rattle.r4_cell.specs.declared.change.Fresh.{Fresh}
-use Rattle.r4_graft.specs.Splices.{IsBorder}
-use Rattle.r4_graft.proofs.Placed.{first_member, first_or_later, not_in_none}
-use Rattle.r4_patch.specs.Joining.{ids_of}
-use Rattle.r4_patch.proofs.Members.{Distinct, have_names, here, later}
-use Rattle.r4_path.specs.Grafts.{AreBlocksOf, AreCountedBelow, GraftsBelow, IsGraftBelow, IsGraftBelowIn}
-use Rattle.r4_path.specs.Grafts.{IsGraftBelowUp, IsGraftIn, IsGraftOf, IsGraftedIn, IsGraftedUp, IsUnusedBeside}
-use Rattle.r4_path.specs.Steps.{CountUp, Follow as FollowCells, IsFree, IsNameOf, name_of}
-use Rattle.r4_path.specs.TwigPieces.{ArePiecesOf, twig_pieces}
-use Rattle.r4_path.specs.Twigs.{Below}
-use Rattle.r4_path.proofs.GraftBelow.{path_later}
-use Rattle.r4_path.proofs.Grown.{map_names, names_map}
-use Rattle.r4_path.proofs.LastCell.{last_up, up_last, up_some}
-use Rattle.r4_path.proofs.Rising.{follow_within, hi_is, lo_is}
-use Rattle.r4_edit.specs.Extents.{AreEnough, IsGivenExtent, given_cells, item_blocks}
-use Rattle.r4_edit.specs.LeafParts.{HasLeft, HasRight, first_from, units_from}
-use Rattle.r4_edit.proofs.CutGraft.{may_be_named}
-use Rattle.r4_edit.proofs.OverLeaf.{first_there, leaf_node, some_is_none}
-use Rattle.r4_edit.proofs.OverPieces.{MayStandBehind}
-use Rattle.r4_edit.proofs.Spread.{extent_level}
+use Rattle.r4_work.specs.r4_branch.Pieces.{names_of, next_of}
+use Rattle.r4_work.specs.r4_branch.declared.piece.TwigPiece.{TwigPiece}
+use Rattle.r4_work.proofs.r4_branch.SoundItems.{extent_item}
+use Rattle.r4_work.proofs.r4_branch.UnitPieces.{rank_later}
+use Rattle.r4_work.specs.r4_cell.Patch.{HaveNames}
+use Rattle.r4_work.specs.r4_cell.Seen.{CellSeen, node_of}
+use Rattle.r4_work.specs.r4_cell.declared.change.Change.{Change}
+use Rattle.r4_work.specs.r4_cell.declared.change.Fresh.{Fresh}
+use Rattle.r4_work.specs.r4_graft.Splices.{IsBorder}
+use Rattle.r4_work.proofs.r4_graft.Placed.{first_member, first_or_later, not_in_none}
+use Rattle.r4_work.specs.r4_patch.Joining.{ids_of}
+use Rattle.r4_work.proofs.r4_patch.Members.{Distinct, have_names, here, later}
+use Rattle.r4_work.specs.r4_path.Grafts.{AreBlocksOf, AreCountedBelow, GraftsBelow, IsGraftBelow, IsGraftBelowIn}
+use Rattle.r4_work.specs.r4_path.Grafts.{IsGraftBelowUp, IsGraftIn, IsGraftOf, IsGraftedIn, IsGraftedUp, IsUnusedBeside}
+use Rattle.r4_work.specs.r4_path.Steps.{CountUp, Follow as FollowCells, IsFree, IsNameOf, name_of}
+use Rattle.r4_work.specs.r4_path.TwigPieces.{ArePiecesOf, twig_pieces}
+use Rattle.r4_work.specs.r4_path.Twigs.{Below}
+use Rattle.r4_work.proofs.r4_path.GraftBelow.{path_later}
+use Rattle.r4_work.proofs.r4_path.Grown.{map_names, names_map}
+use Rattle.r4_work.proofs.r4_path.LastCell.{last_up, up_last, up_some}
+use Rattle.r4_work.proofs.r4_path.Rising.{follow_within, hi_is, lo_is}
+use Rattle.r4_work.specs.r4_edit.Extents.{AreEnough, IsGivenExtent, given_cells, item_blocks}
+use Rattle.r4_work.specs.r4_edit.LeafParts.{HasLeft, HasRight, first_from, units_from}
+use Rattle.r4_work.proofs.r4_edit.CutGraft.{may_be_named}
+use Rattle.r4_work.proofs.r4_edit.OverLeaf.{first_there, leaf_node, some_is_none}
+use Rattle.r4_work.proofs.r4_edit.OverPieces.{MayStandBehind}
+use Rattle.r4_work.proofs.r4_edit.Spread.{extent_level}
 use Rattle.r4_extent_edit.specs.Turning.{IsTurnIn, IsTurnUp, KeepsEnds, TurnsIn, TurnsUp, key_of_end, last_leaf}
 use Rattle.r4_extent_edit.specs.Turning.{turned_pieces}
 use Rattle.r4_extent_edit.proofs.TurnPieces.{comes, comes_names, last_in, p, turn_border, turned_bytes, turned_names}

@@ -10,31 +10,31 @@ use Rattle.r4_base.specs.Cell.{item_end, item_units}
 use Rattle.r4_base.specs.Key.{rank}
 use Rattle.r4_base.specs.Node.{Item}
 use Rattle.r4_base.specs.Tree.{Name}
-use Rattle.r4_branch.specs.Pieces.{AreTwigPieces, Follow, bytes_behind, item_pieces, last_end, names_of, next_of}
-use Rattle.r4_branch.specs.Pieces.{part_bytes, part_end, part_names, part_units, piece_end, twig_bytes, units_of}
-use Rattle.r4_branch.specs.declared.piece.TwigPiece.{TwigPiece}
-use Rattle.r4_branch.proofs.ItemPieces.{bytes_of_item, follow_item, names_of_item, next_of_item, units_append}
-use Rattle.r4_branch.proofs.ItemPieces.{units_of_item}
-use Rattle.r4_cell.specs.Seen.{CellSeen, node_of}
-use Rattle.r4_graft.specs.Splices.{IsBorder, parted, parted_piece, place}
-use Rattle.r4_graft.proofs.Joined.{bytes_join, bytes_most, end_of, follow_join, follow_parts, names_join, next_join}
-use Rattle.r4_graft.proofs.Joined.{spliced_bytes}
-use Rattle.r4_graft.proofs.Placed.{first_member, first_or_later, follow_above, has_end, later_member, place_none}
-use Rattle.r4_graft.proofs.Placed.{place_some}
-use Rattle.r4_graft.proofs.SplicedNames.{spliced_names}
-use Rattle.r4_leaf.specs.Units.{put_units}
-use Rattle.r4_leaf.proofs.Rising.{Rise, put_run, rise_lower, rise_wider}
-use Rattle.r4_patch.proofs.Members.{cases, here, later, none}
-use Rattle.r4_path.specs.Steps.{Follow as FollowCells, name_of}
-use Rattle.r4_path.specs.TwigPieces.{ArePiecesOf, twig_pieces}
-use Rattle.r4_path.proofs.Rising.{follow_within}
-use Rattle.r4_edit.specs.CutBlocks.{parted_twice}
-use Rattle.r4_edit.specs.Extents.{IsGivenExtent, given_cells, item_blocks, pointer_to}
-use Rattle.r4_edit.proofs.CutNames.{units_rise}
-use Rattle.r4_edit.proofs.CutParts.{follow_from}
-use Rattle.r4_edit.proofs.OverPieces.{MayStandBehind, item_some, pointer_bytes, pointer_follows, pointer_names}
-use Rattle.r4_edit.proofs.OverUnits.{pointer_none}
-use Rattle.r4_edit.proofs.Spread.{extent_names}
+use Rattle.r4_work.specs.r4_branch.Pieces.{AreTwigPieces, Follow, bytes_behind, item_pieces, last_end, names_of, next_of}
+use Rattle.r4_work.specs.r4_branch.Pieces.{part_bytes, part_end, part_names, part_units, piece_end, twig_bytes, units_of}
+use Rattle.r4_work.specs.r4_branch.declared.piece.TwigPiece.{TwigPiece}
+use Rattle.r4_work.proofs.r4_branch.ItemPieces.{bytes_of_item, follow_item, names_of_item, next_of_item, units_append}
+use Rattle.r4_work.proofs.r4_branch.ItemPieces.{units_of_item}
+use Rattle.r4_work.specs.r4_cell.Seen.{CellSeen, node_of}
+use Rattle.r4_work.specs.r4_graft.Splices.{IsBorder, parted, parted_piece, place}
+use Rattle.r4_work.proofs.r4_graft.Joined.{bytes_join, bytes_most, end_of, follow_join, follow_parts, names_join, next_join}
+use Rattle.r4_work.proofs.r4_graft.Joined.{spliced_bytes}
+use Rattle.r4_work.proofs.r4_graft.Placed.{first_member, first_or_later, follow_above, has_end, later_member, place_none}
+use Rattle.r4_work.proofs.r4_graft.Placed.{place_some}
+use Rattle.r4_work.proofs.r4_graft.SplicedNames.{spliced_names}
+use Rattle.r4_work.specs.r4_leaf.Units.{put_units}
+use Rattle.r4_work.proofs.r4_leaf.Rising.{Rise, put_run, rise_lower, rise_wider}
+use Rattle.r4_work.proofs.r4_patch.Members.{cases, here, later, none}
+use Rattle.r4_work.specs.r4_path.Steps.{Follow as FollowCells, name_of}
+use Rattle.r4_work.specs.r4_path.TwigPieces.{ArePiecesOf, twig_pieces}
+use Rattle.r4_work.proofs.r4_path.Rising.{follow_within}
+use Rattle.r4_work.specs.r4_edit.CutBlocks.{parted_twice}
+use Rattle.r4_work.specs.r4_edit.Extents.{IsGivenExtent, given_cells, item_blocks, pointer_to}
+use Rattle.r4_work.proofs.r4_edit.CutNames.{units_rise}
+use Rattle.r4_work.proofs.r4_edit.CutParts.{follow_from}
+use Rattle.r4_work.proofs.r4_edit.OverPieces.{MayStandBehind, item_some, pointer_bytes, pointer_follows, pointer_names}
+use Rattle.r4_work.proofs.r4_edit.OverUnits.{pointer_none}
+use Rattle.r4_work.proofs.r4_edit.Spread.{extent_names}
 use Rattle.r4_extent_edit.specs.Between.{pieces_over, put_between}
 use Rattle.r4_extent_edit.specs.Turning.{AreAround, last_leaf, turned_pieces}
 use Rattle.r4_extent_edit.proofs.LeafPointers.{HasPointers, find_pointers}

@@ -7,17 +7,17 @@ use Rattle.r4_base.specs.Cell.{run_names}
 use Rattle.r4_base.specs.Extents.{is_hole}
 use Rattle.r4_base.specs.Key.{rank}
 use Rattle.r4_base.specs.Tree.{IsData, Name}
-use Rattle.r4_branch.specs.Pieces.{Follow, names_of, next_of, part_end, part_names, piece_end}
-use Rattle.r4_branch.specs.declared.piece.TwigPart.{TwigPart}
-use Rattle.r4_branch.specs.declared.piece.TwigPart.TheVariants.{Pointer, Blocks}
-use Rattle.r4_branch.specs.declared.piece.TwigPiece.{TwigPiece}
-use Rattle.r4_cell.specs.Seen.{CellSeen, node_of}
-use Rattle.r4_graft.specs.Splices.{IsBorder}
-use Rattle.r4_graft.proofs.Joined.{names_join, next_join}
-use Rattle.r4_graft.proofs.Placed.{first_or_later, follow_end, has_end, not_in_none}
-use Rattle.r4_path.specs.TwigPieces.{ArePiecesOf, twig_pieces}
-use Rattle.r4_edit.specs.CutBlocks.{parted_twice, pieces_behind, pieces_below, pieces_between}
-use Rattle.r4_edit.proofs.CutParts.{AreSplit, split, twice_names}
+use Rattle.r4_work.specs.r4_branch.Pieces.{Follow, names_of, next_of, part_end, part_names, piece_end}
+use Rattle.r4_work.specs.r4_branch.declared.piece.TwigPart.{TwigPart}
+use Rattle.r4_work.specs.r4_branch.declared.piece.TwigPart.TheVariants.{Pointer, Blocks}
+use Rattle.r4_work.specs.r4_branch.declared.piece.TwigPiece.{TwigPiece}
+use Rattle.r4_work.specs.r4_cell.Seen.{CellSeen, node_of}
+use Rattle.r4_work.specs.r4_graft.Splices.{IsBorder}
+use Rattle.r4_work.proofs.r4_graft.Joined.{names_join, next_join}
+use Rattle.r4_work.proofs.r4_graft.Placed.{first_or_later, follow_end, has_end, not_in_none}
+use Rattle.r4_work.specs.r4_path.TwigPieces.{ArePiecesOf, twig_pieces}
+use Rattle.r4_work.specs.r4_edit.CutBlocks.{parted_twice, pieces_behind, pieces_below, pieces_between}
+use Rattle.r4_work.proofs.r4_edit.CutParts.{AreSplit, split, twice_names}
 
 run_within : (k start count : ℕ) (n : Name) → Contains (run_names k start count) n → (k ≤ n.lo)
     × (n.hi ≤ k + 4096 * count)

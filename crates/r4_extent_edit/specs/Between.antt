@@ -5,12 +5,12 @@ use Rattle.r4_base.specs.Key.{offset_of, rank}
 use Rattle.r4_base.specs.Node.{Item}
 use Rattle.r4_base.specs.declared.items.Unit.{Unit as ExtentUnit}
 use Rattle.r4_base.specs.declared.key.Key.{Key}
-use Rattle.r4_branch.specs.declared.piece.TwigPart.TheVariants.{Blocks}
-use Rattle.r4_branch.specs.declared.piece.TwigPiece.{TwigPiece}
-use Rattle.r4_cell.specs.Seen.{CellSeen}
-use Rattle.r4_edit.specs.CutBlocks.{parted_twice}
-use Rattle.r4_graft.specs.Splices.{place, spliced}
-use Rattle.r4_path.specs.TwigPieces.{twig_pieces}
+use Rattle.r4_work.specs.r4_branch.declared.piece.TwigPart.TheVariants.{Blocks}
+use Rattle.r4_work.specs.r4_branch.declared.piece.TwigPiece.{TwigPiece}
+use Rattle.r4_work.specs.r4_cell.Seen.{CellSeen}
+use Rattle.r4_work.specs.r4_edit.CutBlocks.{parted_twice}
+use Rattle.r4_work.specs.r4_graft.Splices.{place, spliced}
+use Rattle.r4_work.specs.r4_path.TwigPieces.{twig_pieces}
 
 -- others in the place of the pieces that begin from one key on and below another
 abbrev pub put_between : (from to : ℕ) → (others : List TwigPiece) → List TwigPiece → List TwigPiece

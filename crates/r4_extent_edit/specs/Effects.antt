@@ -7,17 +7,17 @@ use Rattle.r4_base.specs.Key.{rank}
 use Rattle.r4_base.specs.Node.{Item}
 use Rattle.r4_base.specs.Tree.{Root, Store}
 use Rattle.r4_base.specs.Value.{Value}
-use Rattle.r4_cell.specs.Patch.{IsChange, Patch, patch_of}
-use Rattle.r4_cell.specs.Seen.{CellSeen}
-use Rattle.r4_cell.specs.declared.change.Change.{Change}
-use Rattle.r4_cell.specs.declared.change.Fresh.{Fresh}
-use Rattle.r4_cell.specs.declared.change.Root.{Root as RootPair}
-use Rattle.r4_leaf.specs.Units.{is_between}
-use Rattle.r4_patch.specs.Effect.{HasEffect, Placed, in_extent, in_leaf}
-use Rattle.r4_patch.specs.Part.{MeetsPart}
-use Rattle.r4_path.specs.Levels.{units_of_cells}
-use Rattle.r4_path.specs.Nodes.{IsPointable}
-use Rattle.r4_path.specs.Sharing.{IsSound}
+use Rattle.r4_work.specs.r4_cell.Patch.{IsChange, Patch, patch_of}
+use Rattle.r4_work.specs.r4_cell.Seen.{CellSeen}
+use Rattle.r4_work.specs.r4_cell.declared.change.Change.{Change}
+use Rattle.r4_work.specs.r4_cell.declared.change.Fresh.{Fresh}
+use Rattle.r4_work.specs.r4_cell.declared.change.Root.{Root as RootPair}
+use Rattle.r4_work.specs.r4_leaf.Units.{is_between}
+use Rattle.r4_work.specs.r4_patch.Effect.{HasEffect, Placed, in_extent, in_leaf}
+use Rattle.r4_work.specs.r4_patch.Part.{MeetsPart}
+use Rattle.r4_work.specs.r4_path.Levels.{units_of_cells}
+use Rattle.r4_work.specs.r4_path.Nodes.{IsPointable}
+use Rattle.r4_work.specs.r4_path.Sharing.{IsSound}
 use Rattle.r4_work.specs.Remaking.{value_in}
 
 -- the change's cells with data blocks that come, as one patch

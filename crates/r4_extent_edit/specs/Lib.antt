@@ -4,4 +4,4 @@ pub mod Setting
 pub mod Spans
 pub mod Turning
 -- what crates above name by way of this one
-pub use Rattle.r4_leaf.specs as r4_leaf
+pub use Rattle.r4_work.specs.r4_leaf

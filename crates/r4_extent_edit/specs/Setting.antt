@@ -5,16 +5,16 @@ use Rattle.r4_base.specs.Key.{rank}
 use Rattle.r4_base.specs.Node.{Item}
 use Rattle.r4_base.specs.Tree.{Name, Root, Store}
 use Rattle.r4_base.specs.Value.{Value}
-use Rattle.r4_branch.specs.Pieces.{item_pieces, units_of}
-use Rattle.r4_branch.specs.declared.piece.TwigPiece.{TwigPiece}
-use Rattle.r4_cell.specs.Seen.{CellSeen, node_of}
-use Rattle.r4_cell.specs.declared.change.Change.{Change}
-use Rattle.r4_cell.specs.declared.change.Fresh.{Fresh}
-use Rattle.r4_graft.specs.Splices.{IsBorder}
-use Rattle.r4_leaf.specs.Units.{cut_units, put_units}
-use Rattle.r4_path.specs.Grafts.{GraftsBelow}
-use Rattle.r4_path.specs.TwigPieces.{twig_pieces}
-use Rattle.r4_edit.specs.Extents.{AreNewBlocks, HasRoomFor, IsGivenExtent, item_blocks}
+use Rattle.r4_work.specs.r4_branch.Pieces.{item_pieces, units_of}
+use Rattle.r4_work.specs.r4_branch.declared.piece.TwigPiece.{TwigPiece}
+use Rattle.r4_work.specs.r4_cell.Seen.{CellSeen, node_of}
+use Rattle.r4_work.specs.r4_cell.declared.change.Change.{Change}
+use Rattle.r4_work.specs.r4_cell.declared.change.Fresh.{Fresh}
+use Rattle.r4_work.specs.r4_graft.Splices.{IsBorder}
+use Rattle.r4_work.specs.r4_leaf.Units.{cut_units, put_units}
+use Rattle.r4_work.specs.r4_path.Grafts.{GraftsBelow}
+use Rattle.r4_work.specs.r4_path.TwigPieces.{twig_pieces}
+use Rattle.r4_work.specs.r4_edit.Extents.{AreNewBlocks, HasRoomFor, IsGivenExtent, item_blocks}
 use Rattle.r4_extent_edit.specs.Between.{HasKeyBehind, pieces_over}
 
 -- The keys are the twig's, both ends lie at borders of blocks, and no leaf and no data block has a

@@ -1,10 +1,10 @@
 -- Keys of one extent that may be cut out of it, or filled (docs/volume.md, "Edits").
 use Rattle.std.specs.Prelude.{◌≡◌, ◌⊎◌, ℕ, ◌+◌, ◌*◌, ◌<◌, ◌≤◌, Contains}
 use Rattle.r4_base.specs.Tree.{IsData, IsNode, Name, Span}
-use Rattle.r4_cell.specs.Seen.{CellSeen, node_of}
-use Rattle.r4_graft.specs.Splices.{IsBorder}
-use Rattle.r4_path.specs.Sharing.{IsSound}
-use Rattle.r4_path.specs.TwigPieces.{twig_pieces}
+use Rattle.r4_work.specs.r4_cell.Seen.{CellSeen, node_of}
+use Rattle.r4_work.specs.r4_graft.Splices.{IsBorder}
+use Rattle.r4_work.specs.r4_path.Sharing.{IsSound}
+use Rattle.r4_work.specs.r4_path.TwigPieces.{twig_pieces}
 
 -- The key lies some whole blocks behind the extent's first one, or where its range ends.
 abbrev pub IsSpanBorder : Span → ℕ → Type 0

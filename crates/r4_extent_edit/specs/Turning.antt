@@ -8,18 +8,18 @@ use Rattle.r4_base.specs.Node.{Item}
 use Rattle.r4_base.specs.Tree.{Root, Store}
 use Rattle.r4_base.specs.Value.{Value}
 use Rattle.r4_base.specs.declared.key.Key.{Key}
-use Rattle.r4_branch.specs.Pieces.{item_pieces, units_of}
-use Rattle.r4_branch.specs.declared.piece.TwigPiece.{TwigPiece}
-use Rattle.r4_cell.specs.Seen.{CellSeen, node_of}
-use Rattle.r4_cell.specs.declared.change.Change.{Change}
-use Rattle.r4_cell.specs.declared.change.Fresh.{Fresh}
-use Rattle.r4_leaf.specs.Units.{put_units}
-use Rattle.r4_path.specs.Grafts.{GraftsBelow}
-use Rattle.r4_path.specs.Growing.{IsPathIn}
-use Rattle.r4_path.specs.Steps.{Follow, name_of}
-use Rattle.r4_edit.specs.Extents.{AreEnough, AreNewBlocks, IsGivenExtent, given_cells, item_blocks}
-use Rattle.r4_edit.specs.Extents.{pointer_to}
-use Rattle.r4_edit.specs.LeafParts.{HasLeft, HasRight}
+use Rattle.r4_work.specs.r4_branch.Pieces.{item_pieces, units_of}
+use Rattle.r4_work.specs.r4_branch.declared.piece.TwigPiece.{TwigPiece}
+use Rattle.r4_work.specs.r4_cell.Seen.{CellSeen, node_of}
+use Rattle.r4_work.specs.r4_cell.declared.change.Change.{Change}
+use Rattle.r4_work.specs.r4_cell.declared.change.Fresh.{Fresh}
+use Rattle.r4_work.specs.r4_leaf.Units.{put_units}
+use Rattle.r4_work.specs.r4_path.Grafts.{GraftsBelow}
+use Rattle.r4_work.specs.r4_path.Growing.{IsPathIn}
+use Rattle.r4_work.specs.r4_path.Steps.{Follow, name_of}
+use Rattle.r4_work.specs.r4_edit.Extents.{AreEnough, AreNewBlocks, IsGivenExtent, given_cells, item_blocks}
+use Rattle.r4_work.specs.r4_edit.Extents.{pointer_to}
+use Rattle.r4_work.specs.r4_edit.LeafParts.{HasLeft, HasRight}
 use Rattle.r4_extent_edit.specs.Between.{HasKeyBehind, pieces_over}
 
 -- the last of some leaves, of which the first is given

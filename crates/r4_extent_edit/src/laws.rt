@@ -4,18 +4,18 @@ ghost use Rattle.std.specs.Prelude.{◌≡◌, ◌⊎◌, ℕ, ◌≤◌, [], Li
 ghost use Rattle.r4_base.specs.Node.{Item};
 ghost use Rattle.r4_base.specs.Tree.{IsData, Name, Root, Span, Store};
 ghost use Rattle.r4_base.specs.Value.{Value};
-ghost use Rattle.r4_cell.specs.Seen.{CellSeen, node_of};
-ghost use Rattle.r4_cell.specs.declared.change.Change.{Change};
-ghost use Rattle.r4_cell.specs.declared.change.Fresh.{Fresh};
-ghost use Rattle.r4_edit.specs.CutBlocks.{CutsUp, IsCutUp};
-ghost use Rattle.r4_edit.specs.Extents.{IsLeafPutUp, IsOverUp, IsSpreadUp, PutsLeafUp, PutsOverUp};
-ghost use Rattle.r4_edit.specs.Extents.{SpreadsUp, item_blocks};
+ghost use Rattle.r4_work.specs.r4_cell.Seen.{CellSeen, node_of};
+ghost use Rattle.r4_work.specs.r4_cell.declared.change.Change.{Change};
+ghost use Rattle.r4_work.specs.r4_cell.declared.change.Fresh.{Fresh};
+ghost use Rattle.r4_work.specs.r4_edit.CutBlocks.{CutsUp, IsCutUp};
+ghost use Rattle.r4_work.specs.r4_edit.Extents.{IsLeafPutUp, IsOverUp, IsSpreadUp, PutsLeafUp, PutsOverUp};
+ghost use Rattle.r4_work.specs.r4_edit.Extents.{SpreadsUp, item_blocks};
 ghost use Rattle.r4_extent_edit.specs.Effects.{EditsUnits, IsMadeIn, MayStandUp, extent_values};
 ghost use Rattle.r4_extent_edit.specs.Effects.{item_keys, leaf_values, no_values, own_keys};
 ghost use Rattle.r4_extent_edit.specs.Setting.{AreHoles};
 ghost use Rattle.r4_extent_edit.specs.Spans.{AreOfSpan, AreWholeBlocks};
-ghost use Rattle.r4_leaf.specs.Units.{is_between};
-ghost use Rattle.r4_path.specs.Grafts.{AreBlocksOf};
+ghost use Rattle.r4_work.specs.r4_leaf.Units.{is_between};
+ghost use Rattle.r4_work.specs.r4_path.Grafts.{AreBlocksOf};
 
 /// Keys of one extent, from one border of its blocks up to another: no leaf has one of them, and of
 /// a data block either all keys are among them or none. So they may be cut out of a twig, and the

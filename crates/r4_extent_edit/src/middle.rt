@@ -3,14 +3,11 @@
 ghost use Rattle.std.specs.Prelude.{◌≡◌, ℕ, IfOk};
 ghost use Rattle.r4_base.specs.Key.{rank};
 ghost use Rattle.r4_extent_edit.specs.Between.{EndsAt, pieces_over};
-ghost use Rattle.r4_graft.specs.Splices.{IsBorder};
-ghost use Rattle.r4_path.specs.TwigPieces.{ArePiecesOf, twig_pieces};
+ghost use Rattle.r4_work.specs.r4_graft.Splices.{IsBorder};
+ghost use Rattle.r4_work.specs.r4_path.TwigPieces.{ArePiecesOf, twig_pieces};
 
 use r4_base::{BLOCK_BYTES, Key, Memory};
-use r4_branch::{TwigPart, TwigPiece};
-use r4_cell::Cell;
-use r4_edit::pieces_parted;
-use r4_graft::{place_of, splice};
+use r4_work::{Cell, TwigPart, TwigPiece, pieces_parted, place_of, splice};
 use std::alloc::Global;
 
 // A twig's pieces, parted at both keys, with others in the place of those between them. The first

@@ -4,21 +4,19 @@ ghost use Rattle.std.specs.Prelude.{◌≡◌, ℕ, ◌++◌, ◌^◌, ◌≤◌
 ghost use Rattle.std.specs.Arc.{arc_value};
 ghost use Rattle.r4_base.specs.Tree.{Root as TreeRoot, Store};
 ghost use Rattle.r4_base.specs.Value.{Value};
-ghost use Rattle.r4_cell.specs.Patch.{IsChange};
-ghost use Rattle.r4_cell.specs.Seen.{CellSeen};
-ghost use Rattle.r4_edit.specs.Editing.{given_item};
-ghost use Rattle.r4_edit.specs.Extents.{item_blocks};
+ghost use Rattle.r4_work.specs.r4_cell.Patch.{IsChange};
+ghost use Rattle.r4_work.specs.r4_cell.Seen.{CellSeen};
+ghost use Rattle.r4_work.specs.r4_edit.Editing.{given_item};
+ghost use Rattle.r4_work.specs.r4_edit.Extents.{item_blocks};
 ghost use Rattle.r4_extent_edit.specs.Effects.{EditsUnits, extent_values, item_keys, patch_with};
 ghost use Rattle.r4_extent_edit.specs.Setting.{IsSetUp, SetsUp};
-ghost use Rattle.r4_patch.specs.Part.{MeetsPart};
-ghost use Rattle.r4_path.specs.Grafts.{AreBlocksOf};
-ghost use Rattle.r4_path.specs.Steps.{OnlyTakes};
+ghost use Rattle.r4_work.specs.r4_patch.Part.{MeetsPart};
+ghost use Rattle.r4_work.specs.r4_path.Grafts.{AreBlocksOf};
+ghost use Rattle.r4_work.specs.r4_path.Steps.{OnlyTakes};
 
 use crate::middle::{key_behind, pieces_put_over};
 use r4_base::{Key, Memory};
-use r4_branch::extent_pieces;
-use r4_cell::{Cell, Change, Fresh};
-use r4_path::graft_below;
+use r4_work::{Cell, Change, Fresh, extent_pieces, graft_below};
 use std::alloc::Global;
 use std::sync::Arc;
 

@@ -7,23 +7,23 @@ ghost use Rattle.std.specs.Option.{option_map};
 ghost use Rattle.r4_base.specs.Key.{rank};
 ghost use Rattle.r4_base.specs.Tree.{Root as TreeRoot, Store};
 ghost use Rattle.r4_base.specs.Value.{Value};
-ghost use Rattle.r4_cell.specs.Patch.{IsChange};
-ghost use Rattle.r4_cell.specs.Seen.{CellSeen, node_of};
-ghost use Rattle.r4_edit.specs.Editing.{given_item};
-ghost use Rattle.r4_edit.specs.Extents.{given_cells, item_blocks};
-ghost use Rattle.r4_edit.specs.LeafParts.{HasRight};
+ghost use Rattle.r4_work.specs.r4_cell.Patch.{IsChange};
+ghost use Rattle.r4_work.specs.r4_cell.Seen.{CellSeen, node_of};
+ghost use Rattle.r4_work.specs.r4_edit.Editing.{given_item};
+ghost use Rattle.r4_work.specs.r4_edit.Extents.{given_cells, item_blocks};
+ghost use Rattle.r4_work.specs.r4_edit.LeafParts.{HasRight};
 ghost use Rattle.r4_extent_edit.specs.Effects.{EditsUnits, extent_values, item_keys, patch_with};
 ghost use Rattle.r4_extent_edit.specs.Turning.{AreEnds, IsTurnUp, KeepsEnds, TurnsUp};
-ghost use Rattle.r4_patch.specs.Part.{MeetsPart};
-ghost use Rattle.r4_path.specs.Grafts.{AreBlocksOf};
-ghost use Rattle.r4_path.specs.Steps.{OnlyTakes};
+ghost use Rattle.r4_work.specs.r4_patch.Part.{MeetsPart};
+ghost use Rattle.r4_work.specs.r4_path.Grafts.{AreBlocksOf};
+ghost use Rattle.r4_work.specs.r4_path.Steps.{OnlyTakes};
 
 use crate::middle::{key_behind, pieces_put_over};
 use r4_base::{Key, Memory};
-use r4_branch::extent_pieces;
-use r4_cell::{Cell, Change, Fresh};
-use r4_edit::{LeafParts, add_pointer, cells_of, left_part, right_part};
-use r4_path::{add, graft_below};
+use r4_work::{
+    Cell, Change, Fresh, LeafParts, add, add_pointer, cells_of, extent_pieces, graft_below,
+    left_part, right_part,
+};
 use std::alloc::Global;
 use std::sync::Arc;
 

@@ -5,14 +5,14 @@ use Rattle.std.specs.List.{list_all}
 use Rattle.std.proofs.lemmas.Grind.{common_steps}
 use Rattle.std.proofs.lemmas.List.Sums.{sum_by_from}
 use Rattle.r4_content.specs.Edited.{Edits}
-use Rattle.r4_measure.proofs.r4_patch.Members.{cases}
-use Rattle.r4_measure.specs.r4_cell.Seen.{CellSeen, node_of}
-use Rattle.r4_measure.specs.r4_path.TwigPieces.{ArePiecesOf, twig_pieces}
-use Rattle.r4_measure.specs.r4_reach.Needs.{pieces_after}
-use Rattle.r4_measure.specs.r4_reach.Touched.{Body}
-use Rattle.r4_extent_build.specs.Looping.{turns_of}
-use Rattle.r4_extent_build.specs.Numbering.{coming_count}
-use Rattle.r4_extent_build.specs.r4_twig_turns.Turning.{TwigTurn, numbers_for as numbers_of_turns}
+use Rattle.r4_extent_change.proofs.r4_measure.r4_patch.Members.{cases}
+use Rattle.r4_extent_change.specs.r4_measure.r4_cell.Seen.{CellSeen, node_of}
+use Rattle.r4_extent_change.specs.r4_measure.r4_path.TwigPieces.{ArePiecesOf, twig_pieces}
+use Rattle.r4_extent_change.specs.r4_measure.r4_reach.Needs.{pieces_after}
+use Rattle.r4_extent_change.specs.r4_measure.r4_reach.Touched.{Body}
+use Rattle.r4_extent_change.specs.r4_extent_build.Looping.{turns_of}
+use Rattle.r4_extent_change.specs.r4_extent_build.Numbering.{coming_count}
+use Rattle.r4_extent_change.specs.r4_extent_build.r4_twig_turns.Turning.{TwigTurn, numbers_for as numbers_of_turns}
 use Rattle.r4_extent_change.specs.Beside.{is_turning, turning_among}
 use Rattle.r4_extent_change.specs.Changing.{numbers_needed}
 use Rattle.r4_extent_growth.specs.Turning.{may_turn, may_turn_all, numbers_for}

@@ -12,27 +12,27 @@ use Rattle.r4_base.specs.Value.{Value}
 use Rattle.r4_base.specs.declared.items.Unit.{Unit as ExtentUnit}
 use Rattle.r4_base.specs.declared.key.Key.{Key}
 use Rattle.r4_content.specs.Edited.{Edits, Intervals, Pairs, changed, is_between, is_in, put_keys}
-use Rattle.r4_build.specs.Building.{LiesInLeaf}
+use Rattle.r4_extent_change.specs.r4_build.Building.{LiesInLeaf}
 use Rattle.r4_content.proofs.EditLaws.{in_append}
-use Rattle.r4_leaf_edits.specs.Suiting.{is_byte}
-use Rattle.r4_measure.proofs.r4_patch.Members.{cases, none}
-use Rattle.r4_graft.proofs.Placed.{first_member, follow_end, later_member}
-use Rattle.r4_graft.specs.Places.{HasGap}
-use Rattle.r4_graft.specs.Splices.{place}
-use Rattle.r4_measure.specs.Budget.{Budget}
-use Rattle.r4_measure.specs.r4_branch.Pieces.{last_end, names_of, open_end, part_end, part_names, twig_bytes}
-use Rattle.r4_measure.specs.r4_branch.declared.piece.TwigPart.{TwigPart}
-use Rattle.r4_measure.specs.r4_branch.declared.piece.TwigPart.TheVariants.{Blocks, Pointer}
-use Rattle.r4_measure.specs.r4_branch.declared.piece.TwigPiece.{TwigPiece}
-use Rattle.r4_measure.specs.r4_cell.Seen.{CellSeen, node_of}
-use Rattle.r4_measure.specs.r4_cell.declared.change.Fresh.{Fresh}
-use Rattle.r4_measure.specs.r4_leaf.Units.{leaf_bytes}
-use Rattle.r4_measure.specs.r4_path.TwigPieces.{twig_pieces}
-use Rattle.r4_measure.specs.r4_reach.Needs.{is_met, pieces_after, units_after}
-use Rattle.r4_measure.specs.r4_reach.Reach.{is_body}
-use Rattle.r4_measure.specs.r4_reach.Touched.{Body, is_spread}
-use Rattle.r4_extent_build.specs.Growing.{IsGrowing, end_after, end_before}
-use Rattle.r4_extent_build.specs.Numbering.{is_coming}
+use Rattle.r4_twig_asks.specs.r4_leaf_edits.Suiting.{is_byte}
+use Rattle.r4_extent_change.proofs.r4_measure.r4_patch.Members.{cases, none}
+use Rattle.r4_twig_asks.proofs.r4_graft.Placed.{first_member, follow_end, later_member}
+use Rattle.r4_twig_asks.specs.r4_graft.Places.{HasGap}
+use Rattle.r4_twig_asks.specs.r4_graft.Splices.{place}
+use Rattle.r4_extent_change.specs.r4_measure.Budget.{Budget}
+use Rattle.r4_extent_change.specs.r4_measure.r4_branch.Pieces.{last_end, names_of, open_end, part_end, part_names, twig_bytes}
+use Rattle.r4_extent_change.specs.r4_measure.r4_branch.declared.piece.TwigPart.{TwigPart}
+use Rattle.r4_extent_change.specs.r4_measure.r4_branch.declared.piece.TwigPart.TheVariants.{Blocks, Pointer}
+use Rattle.r4_extent_change.specs.r4_measure.r4_branch.declared.piece.TwigPiece.{TwigPiece}
+use Rattle.r4_extent_change.specs.r4_measure.r4_cell.Seen.{CellSeen, node_of}
+use Rattle.r4_extent_change.specs.r4_measure.r4_cell.declared.change.Fresh.{Fresh}
+use Rattle.r4_extent_change.specs.r4_measure.r4_leaf.Units.{leaf_bytes}
+use Rattle.r4_extent_change.specs.r4_measure.r4_path.TwigPieces.{twig_pieces}
+use Rattle.r4_extent_change.specs.r4_measure.r4_reach.Needs.{is_met, pieces_after, units_after}
+use Rattle.r4_extent_change.specs.r4_measure.r4_reach.Reach.{is_body}
+use Rattle.r4_extent_change.specs.r4_measure.r4_reach.Touched.{Body, is_spread}
+use Rattle.r4_extent_change.specs.r4_extent_build.Growing.{IsGrowing, end_after, end_before}
+use Rattle.r4_extent_change.specs.r4_extent_build.Numbering.{is_coming}
 use Rattle.r4_extent_change.specs.Beside.{turning_among, without_bytes}
 use Rattle.r4_extent_change.specs.Changing.{CanGrow, numbers_needed}
 use Rattle.r4_extent_change.specs.Turned.{MayTurn}

@@ -7,29 +7,29 @@ use Rattle.std.proofs.lemmas.List.Folds.{Any-from_list_any}
 use Rattle.r4_base.specs.Key.{offset_of, rank}
 use Rattle.r4_base.specs.Tree.{Root, Store}
 use Rattle.r4_base.specs.Value.{Value}
-use Rattle.r4_build.specs.Building.{LiesInLeaf}
+use Rattle.r4_extent_change.specs.r4_build.Building.{LiesInLeaf}
 use Rattle.r4_content.proofs.EditLaws.{in_append}
 use Rattle.r4_content.specs.Edited.{Edits, Intervals, Pairs, changed, is_between, is_in, put_keys}
-use Rattle.r4_leaf_edits.specs.Suiting.{is_byte}
-use Rattle.r4_measure.proofs.r4_patch.Members.{cases}
-use Rattle.r4_measure.proofs.r4_work.Remade.{or_true}
-use Rattle.r4_measure.specs.Budget.{AreUnplaced, Budget}
-use Rattle.r4_measure.specs.Grafting.{IsQuietBelow}
-use Rattle.r4_measure.specs.r4_cell.Patch.{HaveNames}
-use Rattle.r4_measure.specs.r4_cell.Seen.{CellSeen, node_of}
-use Rattle.r4_measure.specs.r4_cell.declared.change.Fresh.{Fresh}
-use Rattle.r4_measure.specs.r4_leaf.Units.{leaf_bytes}
-use Rattle.r4_measure.specs.r4_path.TwigPieces.{ArePiecesOf, twig_pieces}
-use Rattle.r4_measure.specs.r4_reach.Needs.{changes_pieces, is_met, units_after}
-use Rattle.r4_measure.specs.r4_reach.Reach.{is_body}
-use Rattle.r4_measure.specs.r4_reach.Touched.{Body}
+use Rattle.r4_twig_asks.specs.r4_leaf_edits.Suiting.{is_byte}
+use Rattle.r4_extent_change.proofs.r4_measure.r4_patch.Members.{cases}
+use Rattle.r4_extent_change.proofs.r4_measure.r4_work.Remade.{or_true}
+use Rattle.r4_extent_change.specs.r4_measure.Budget.{AreUnplaced, Budget}
+use Rattle.r4_extent_change.specs.r4_measure.Grafting.{IsQuietBelow}
+use Rattle.r4_extent_change.specs.r4_measure.r4_cell.Patch.{HaveNames}
+use Rattle.r4_extent_change.specs.r4_measure.r4_cell.Seen.{CellSeen, node_of}
+use Rattle.r4_extent_change.specs.r4_measure.r4_cell.declared.change.Fresh.{Fresh}
+use Rattle.r4_extent_change.specs.r4_measure.r4_leaf.Units.{leaf_bytes}
+use Rattle.r4_extent_change.specs.r4_measure.r4_path.TwigPieces.{ArePiecesOf, twig_pieces}
+use Rattle.r4_extent_change.specs.r4_measure.r4_reach.Needs.{changes_pieces, is_met, units_after}
+use Rattle.r4_extent_change.specs.r4_measure.r4_reach.Reach.{is_body}
+use Rattle.r4_extent_change.specs.r4_measure.r4_reach.Touched.{Body}
 use Rattle.r4_base.specs.declared.key.Key.{Key}
-use Rattle.r4_extent_build.specs.Growing.{IsGrowing}
+use Rattle.r4_extent_change.specs.r4_extent_build.Growing.{IsGrowing}
 use Rattle.r4_extent_change.proofs.Chosen.{picked}
 use Rattle.r4_extent_change.specs.Beside.{is_turning, turning_among, without_bytes}
 use Rattle.r4_extent_change.specs.Changing.{AreMeasured, CanGrow, numbers_needed}
 use Rattle.r4_extent_growth.specs.Coming.{SufficesFor, coming_beside, twigs_coming}
-use Rattle.r4_measure.specs.r4_work.Working.{AreCellsIn}
+use Rattle.r4_extent_change.specs.r4_measure.r4_work.Working.{AreCellsIn}
 use Rattle.r4_extent_growth.specs.Growth.{MayGrow}
 use Rattle.r4_extent_growth.specs.Lying.{cut_lies, has_all, has_one, has_room, have_room, is_whole, lie_in_leaves, put_lies}
 use Rattle.r4_extent_growth.specs.Turning.{may_turn, may_turn_all}

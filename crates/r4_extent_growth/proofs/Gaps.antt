@@ -3,13 +3,13 @@ use Rattle.std.proofs.Common.{◌≡◌, ◌⊎◌, inl, inr, ℕ, suc, ◌<◌,
 use Rattle.std.specs.Prelude.{Contains, None, Option, is_some}
 use Rattle.std.proofs.lemmas.Bool.{cases_lt}
 use Rattle.r4_base.specs.Key.{rank}
-use Rattle.r4_graft.proofs.Placed.{first_member, has_end, later_member, place_none, place_some}
-use Rattle.r4_graft.specs.Places.{HasGap}
-use Rattle.r4_graft.specs.Splices.{place}
-use Rattle.r4_measure.specs.r4_branch.Pieces.{Follow, last_end, names_of, next_of, open_end, part_names, piece_end}
-use Rattle.r4_measure.specs.r4_branch.declared.piece.TwigPart.{TwigPart}
-use Rattle.r4_measure.specs.r4_branch.declared.piece.TwigPart.TheVariants.{Blocks, Pointer}
-use Rattle.r4_measure.specs.r4_branch.declared.piece.TwigPiece.{TwigPiece}
+use Rattle.r4_twig_asks.proofs.r4_graft.Placed.{first_member, has_end, later_member, place_none, place_some}
+use Rattle.r4_twig_asks.specs.r4_graft.Places.{HasGap}
+use Rattle.r4_twig_asks.specs.r4_graft.Splices.{place}
+use Rattle.r4_extent_change.specs.r4_measure.r4_branch.Pieces.{Follow, last_end, names_of, next_of, open_end, part_names, piece_end}
+use Rattle.r4_extent_change.specs.r4_measure.r4_branch.declared.piece.TwigPart.{TwigPart}
+use Rattle.r4_extent_change.specs.r4_measure.r4_branch.declared.piece.TwigPart.TheVariants.{Blocks, Pointer}
+use Rattle.r4_extent_change.specs.r4_measure.r4_branch.declared.piece.TwigPiece.{TwigPiece}
 use Rattle.r4_base.specs.declared.key.Key.{Key}
 
 -- a unit's names do not depend on where the next piece begins

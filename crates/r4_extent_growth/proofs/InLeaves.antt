@@ -7,21 +7,21 @@ use Rattle.std.proofs.lemmas.List.Folds.{list_all-append}
 use Rattle.r4_base.specs.Cell.{units_in}
 use Rattle.r4_base.specs.Key.{rank}
 use Rattle.r4_base.specs.Node.{Item}
-use Rattle.r4_build.proofs.MetKeys.{met_key}
+use Rattle.r4_extent_change.proofs.r4_build.MetKeys.{met_key}
 use Rattle.r4_content.specs.Edited.{Edits, Pairs, changed}
 use Rattle.r4_content.specs.Held.{fill_pairs, run_pairs}
 use Rattle.r4_content.specs.Listed.{list_edited}
 use Rattle.r4_content.specs.Objects.{byte_pairs}
 use Rattle.r4_content.specs.declared.edits.ByteRun.{ByteRun}
 use Rattle.r4_content.specs.declared.edits.FilledInterval.{FilledInterval}
-use Rattle.r4_leaf_edits.specs.Made.{MakesEdits}
-use Rattle.r4_measure.proofs.r4_path.Rising.{hi_is, lo_is}
-use Rattle.r4_measure.specs.r4_cell.Seen.{CellSeen, node_of}
-use Rattle.r4_measure.specs.r4_leaf.Remade.{cut_all, put_all}
-use Rattle.r4_measure.specs.r4_leaf.Units.{LeafUnit, is_between, leaf_bytes}
-use Rattle.r4_measure.specs.r4_leaf.declared.remaking.Given.{Given}
-use Rattle.r4_measure.specs.r4_leaf.declared.remaking.KeyRange.{KeyRange}
-use Rattle.r4_measure.specs.r4_reach.Needs.{is_met, units_after}
+use Rattle.r4_twig_asks.specs.r4_leaf_edits.Made.{MakesEdits}
+use Rattle.r4_extent_change.proofs.r4_measure.r4_path.Rising.{hi_is, lo_is}
+use Rattle.r4_extent_change.specs.r4_measure.r4_cell.Seen.{CellSeen, node_of}
+use Rattle.r4_extent_change.specs.r4_measure.r4_leaf.Remade.{cut_all, put_all}
+use Rattle.r4_extent_change.specs.r4_measure.r4_leaf.Units.{LeafUnit, is_between, leaf_bytes}
+use Rattle.r4_extent_change.specs.r4_measure.r4_leaf.declared.remaking.Given.{Given}
+use Rattle.r4_extent_change.specs.r4_measure.r4_leaf.declared.remaking.KeyRange.{KeyRange}
+use Rattle.r4_extent_change.specs.r4_measure.r4_reach.Needs.{is_met, units_after}
 use Rattle.r4_extent_growth.specs.Lying.{put_lies}
 
 -- ---- bytes

@@ -7,19 +7,19 @@ use Rattle.std.proofs.lemmas.List.Sums.{AllPass-from_list_all}
 use Rattle.r4_base.specs.Key.{offset_of, rank}
 use Rattle.r4_base.specs.declared.key.Key.{Key}
 use Rattle.r4_content.specs.Edited.{Edits, is_between}
-use Rattle.r4_graft.specs.Places.{HasGap}
-use Rattle.r4_graft.specs.Splices.{place}
-use Rattle.r4_measure.proofs.r4_work.Remade.{or_true}
-use Rattle.r4_measure.specs.r4_branch.Pieces.{last_end, part_end, piece_end, twig_bytes}
-use Rattle.r4_measure.specs.r4_branch.declared.piece.TwigPart.{TwigPart}
-use Rattle.r4_measure.specs.r4_branch.declared.piece.TwigPart.TheVariants.{Blocks, Pointer}
-use Rattle.r4_measure.specs.r4_branch.declared.piece.TwigPiece.{TwigPiece}
-use Rattle.r4_measure.specs.r4_cell.Seen.{CellSeen, node_of}
-use Rattle.r4_measure.specs.r4_path.TwigPieces.{ArePiecesOf, twig_pieces}
-use Rattle.r4_measure.specs.r4_reach.Needs.{pieces_after}
-use Rattle.r4_measure.specs.r4_reach.Touched.{Body, coming, first_byte}
-use Rattle.r4_extent_build.specs.Growing.{IsClearFor, IsGrowing, end_after, end_before}
-use Rattle.r4_extent_build.specs.Numbering.{is_coming}
+use Rattle.r4_twig_asks.specs.r4_graft.Places.{HasGap}
+use Rattle.r4_twig_asks.specs.r4_graft.Splices.{place}
+use Rattle.r4_extent_change.proofs.r4_measure.r4_work.Remade.{or_true}
+use Rattle.r4_extent_change.specs.r4_measure.r4_branch.Pieces.{last_end, part_end, piece_end, twig_bytes}
+use Rattle.r4_extent_change.specs.r4_measure.r4_branch.declared.piece.TwigPart.{TwigPart}
+use Rattle.r4_extent_change.specs.r4_measure.r4_branch.declared.piece.TwigPart.TheVariants.{Blocks, Pointer}
+use Rattle.r4_extent_change.specs.r4_measure.r4_branch.declared.piece.TwigPiece.{TwigPiece}
+use Rattle.r4_extent_change.specs.r4_measure.r4_cell.Seen.{CellSeen, node_of}
+use Rattle.r4_extent_change.specs.r4_measure.r4_path.TwigPieces.{ArePiecesOf, twig_pieces}
+use Rattle.r4_extent_change.specs.r4_measure.r4_reach.Needs.{pieces_after}
+use Rattle.r4_extent_change.specs.r4_measure.r4_reach.Touched.{Body, coming, first_byte}
+use Rattle.r4_extent_change.specs.r4_extent_build.Growing.{IsClearFor, IsGrowing, end_after, end_before}
+use Rattle.r4_extent_change.specs.r4_extent_build.Numbering.{is_coming}
 use Rattle.r4_extent_growth.specs.Turning.{HasTurn, comes_into, ends_by, has_gap, has_next, is_clear, is_open_by, may_be_packed, may_turn, stands_clear}
 use Rattle.r4_extent_growth.proofs.Gaps.{gap_behind_unit}
 

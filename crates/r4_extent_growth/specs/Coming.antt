@@ -2,11 +2,11 @@
 use Rattle.std.specs.Prelude.{ℕ, ◌≤◌, List, [], map, Contains, Some}
 use Rattle.r4_base.specs.declared.things.NodeId.{NodeId}
 use Rattle.r4_content.specs.Edited.{Edits}
-use Rattle.r4_measure.specs.Budget.{Budget}
-use Rattle.r4_measure.specs.r4_cell.Seen.{CellSeen, node_of}
-use Rattle.r4_measure.specs.r4_path.Grafts.{extra_twigs}
-use Rattle.r4_measure.specs.r4_reach.Needs.{pieces_after}
-use Rattle.r4_measure.specs.r4_reach.Touched.{Body}
+use Rattle.r4_extent_change.specs.r4_measure.Budget.{Budget}
+use Rattle.r4_extent_change.specs.r4_measure.r4_cell.Seen.{CellSeen, node_of}
+use Rattle.r4_extent_change.specs.r4_measure.r4_path.Grafts.{extra_twigs}
+use Rattle.r4_extent_change.specs.r4_measure.r4_reach.Needs.{pieces_after}
+use Rattle.r4_extent_change.specs.r4_measure.r4_reach.Touched.{Body}
 use Rattle.r4_extent_change.specs.Beside.{turning_among}
 
 -- a twig's number, and how many twigs may come beside it once it has the pieces that it is to have

@@ -8,17 +8,17 @@ use Rattle.std.specs.List.{list_all}
 use Rattle.r4_base.specs.Key.{offset_of, rank}
 use Rattle.r4_base.specs.declared.items.Unit.{Unit as ExtentUnit}
 use Rattle.r4_base.specs.declared.key.Key.{Key}
-use Rattle.r4_build.specs.Building.{LiesInLeaf}
+use Rattle.r4_extent_change.specs.r4_build.Building.{LiesInLeaf}
 use Rattle.r4_content.specs.Edited.{Edits, changed, is_in}
-use Rattle.r4_measure.specs.r4_branch.declared.piece.TwigPart.TheVariants.{Blocks}
-use Rattle.r4_measure.specs.r4_branch.declared.piece.TwigPiece.{TwigPiece}
-use Rattle.r4_measure.specs.r4_cell.Seen.{CellSeen, node_of}
-use Rattle.r4_measure.specs.r4_cell.declared.change.Fresh.{Fresh}
-use Rattle.r4_measure.specs.r4_leaf.Units.{leaf_bytes}
-use Rattle.r4_measure.specs.r4_path.TwigPieces.{twig_pieces}
-use Rattle.r4_measure.specs.r4_reach.Needs.{is_met, units_after}
-use Rattle.r4_measure.specs.r4_reach.Touched.{Body}
-use Rattle.r4_extent_build.specs.Growing.{IsGrowing}
+use Rattle.r4_extent_change.specs.r4_measure.r4_branch.declared.piece.TwigPart.TheVariants.{Blocks}
+use Rattle.r4_extent_change.specs.r4_measure.r4_branch.declared.piece.TwigPiece.{TwigPiece}
+use Rattle.r4_extent_change.specs.r4_measure.r4_cell.Seen.{CellSeen, node_of}
+use Rattle.r4_extent_change.specs.r4_measure.r4_cell.declared.change.Fresh.{Fresh}
+use Rattle.r4_extent_change.specs.r4_measure.r4_leaf.Units.{leaf_bytes}
+use Rattle.r4_extent_change.specs.r4_measure.r4_path.TwigPieces.{twig_pieces}
+use Rattle.r4_extent_change.specs.r4_measure.r4_reach.Needs.{is_met, units_after}
+use Rattle.r4_extent_change.specs.r4_measure.r4_reach.Touched.{Body}
+use Rattle.r4_extent_change.specs.r4_extent_build.Growing.{IsGrowing}
 use Rattle.r4_extent_change.specs.Beside.{turning_among, without_bytes}
 use Rattle.r4_extent_change.specs.Changing.{numbers_needed}
 use Rattle.r4_extent_growth.specs.Lying.{have_room, is_whole, lie_in_leaves}

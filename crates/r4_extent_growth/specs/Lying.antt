@@ -7,11 +7,11 @@ use Rattle.std.specs.List.{list_all, list_any}
 use Rattle.r4_base.specs.Key.{offset_of, rank}
 use Rattle.r4_base.specs.Value.{Value}
 use Rattle.r4_content.specs.Edited.{Edits, changed, is_between}
-use Rattle.r4_leaf_edits.specs.Suiting.{is_byte}
-use Rattle.r4_measure.specs.r4_cell.Seen.{CellSeen, node_of}
-use Rattle.r4_measure.specs.r4_leaf.Units.{leaf_bytes}
-use Rattle.r4_measure.specs.r4_reach.Needs.{is_met, units_after}
-use Rattle.r4_measure.specs.r4_reach.Reach.{is_body}
+use Rattle.r4_twig_asks.specs.r4_leaf_edits.Suiting.{is_byte}
+use Rattle.r4_extent_change.specs.r4_measure.r4_cell.Seen.{CellSeen, node_of}
+use Rattle.r4_extent_change.specs.r4_measure.r4_leaf.Units.{leaf_bytes}
+use Rattle.r4_extent_change.specs.r4_measure.r4_reach.Needs.{is_met, units_after}
+use Rattle.r4_extent_change.specs.r4_measure.r4_reach.Reach.{is_body}
 
 -- the cell is a data block of 4096 bytes and keys, and there is a key behind these; or it is a node
 abbrev pub is_whole : CellSeen → Bool

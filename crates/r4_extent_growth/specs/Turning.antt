@@ -6,19 +6,19 @@ use Rattle.std.specs.Prelude.{Bool, false, List, [], take, is_some, Option, None
 use Rattle.std.specs.List.{list_all}
 use Rattle.r4_base.specs.Key.{offset_of, rank}
 use Rattle.r4_content.specs.Edited.{Edits}
-use Rattle.r4_measure.specs.r4_branch.Pieces.{last_end, open_end, twig_bytes}
-use Rattle.r4_measure.specs.r4_branch.declared.piece.TwigPart.{TwigPart}
-use Rattle.r4_measure.specs.r4_branch.declared.piece.TwigPart.TheVariants.{Blocks, Pointer}
-use Rattle.r4_measure.specs.r4_branch.declared.piece.TwigPiece.{TwigPiece}
-use Rattle.r4_measure.specs.r4_cell.Seen.{CellSeen, node_of}
-use Rattle.r4_measure.specs.r4_leaf.Units.{is_between}
-use Rattle.r4_measure.specs.r4_path.TwigPieces.{twig_pieces}
-use Rattle.r4_measure.specs.r4_path.r4_graft.Splices.{place}
-use Rattle.r4_measure.specs.r4_reach.Needs.{pieces_after}
-use Rattle.r4_measure.specs.r4_reach.Touched.{Body, coming, is_spread}
-use Rattle.r4_extent_build.specs.Growing.{IsClearFor, end_after, end_before}
-use Rattle.r4_extent_build.specs.Looping.{IsTwigFor}
-use Rattle.r4_extent_build.specs.Numbering.{coming_count, is_coming}
+use Rattle.r4_extent_change.specs.r4_measure.r4_branch.Pieces.{last_end, open_end, twig_bytes}
+use Rattle.r4_extent_change.specs.r4_measure.r4_branch.declared.piece.TwigPart.{TwigPart}
+use Rattle.r4_extent_change.specs.r4_measure.r4_branch.declared.piece.TwigPart.TheVariants.{Blocks, Pointer}
+use Rattle.r4_extent_change.specs.r4_measure.r4_branch.declared.piece.TwigPiece.{TwigPiece}
+use Rattle.r4_extent_change.specs.r4_measure.r4_cell.Seen.{CellSeen, node_of}
+use Rattle.r4_extent_change.specs.r4_measure.r4_leaf.Units.{is_between}
+use Rattle.r4_extent_change.specs.r4_measure.r4_path.TwigPieces.{twig_pieces}
+use Rattle.r4_extent_change.specs.r4_measure.r4_path.r4_graft.Splices.{place}
+use Rattle.r4_extent_change.specs.r4_measure.r4_reach.Needs.{pieces_after}
+use Rattle.r4_extent_change.specs.r4_measure.r4_reach.Touched.{Body, coming, is_spread}
+use Rattle.r4_extent_change.specs.r4_extent_build.Growing.{IsClearFor, end_after, end_before}
+use Rattle.r4_extent_change.specs.r4_extent_build.Looping.{IsTwigFor}
+use Rattle.r4_extent_change.specs.r4_extent_build.Numbering.{coming_count, is_coming}
 use Rattle.r4_extent_change.specs.Beside.{is_turning, turning_among}
 use Rattle.r4_extent_change.specs.Changing.{numbers_needed}
 

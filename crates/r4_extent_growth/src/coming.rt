@@ -4,17 +4,15 @@
 ghost use Rattle.std.specs.Prelude.{◌≡◌, ◌++◌, ◌∷◌, [], IfOk, OnOk, Some, map};
 ghost use Rattle.std.specs.Arc.{arc_value};
 ghost use Rattle.r4_content.specs.Held.{edits_of};
-ghost use Rattle.r4_measure.specs.r4_path.Grafts.{extra_twigs};
-ghost use Rattle.r4_extent_demands.specs.Sizes.{AreExtentEdits};
+ghost use Rattle.r4_extent_change.specs.r4_measure.r4_path.Grafts.{extra_twigs};
+ghost use Rattle.r4_twig_asks.specs.r4_extent_demands.Sizes.{AreExtentEdits};
 ghost use Rattle.r4_extent_change.specs.Beside.{is_turning, turning_among};
 ghost use Rattle.r4_extent_growth.specs.Coming.{coming_beside, count_of, twigs_coming};
 
 use r4_base::{Memory, NodeId};
 use r4_content::Edits;
-use r4_extent_demands::{SizedBody, changes_pieces, pieces_after};
-use r4_graft::TwigPiece;
-use r4_measure::Cell;
-use r4_twig_asks::twig_bytes;
+use r4_extent_change::Cell;
+use r4_twig_asks::{SizedBody, TwigPiece, changes_pieces, pieces_after, twig_bytes};
 use std::alloc::Global;
 use std::sync::Arc;
 

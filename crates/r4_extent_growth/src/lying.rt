@@ -7,19 +7,17 @@ ghost use Rattle.std.specs.List.{list_all, list_any};
 ghost use Rattle.r4_base.specs.Key.{offset_of, rank};
 ghost use Rattle.r4_content.specs.Edited.{changed};
 ghost use Rattle.r4_content.specs.Held.{edits_of, interval_of, pair_of};
-ghost use Rattle.r4_leaf_edits.specs.Suiting.{SuitLeaves};
-ghost use Rattle.r4_measure.specs.r4_cell.Seen.{node_of};
-ghost use Rattle.r4_measure.specs.r4_leaf.Units.{leaf_bytes};
-ghost use Rattle.r4_measure.specs.r4_reach.Needs.{is_met, units_after};
+ghost use Rattle.r4_twig_asks.specs.r4_leaf_edits.Suiting.{SuitLeaves};
+ghost use Rattle.r4_extent_change.specs.r4_measure.r4_cell.Seen.{node_of};
+ghost use Rattle.r4_extent_change.specs.r4_measure.r4_leaf.Units.{leaf_bytes};
+ghost use Rattle.r4_extent_change.specs.r4_measure.r4_reach.Needs.{is_met, units_after};
 ghost use Rattle.r4_extent_growth.specs.Lying.{cut_lies, has_all, has_one, has_room, have_room};
 ghost use Rattle.r4_extent_growth.specs.Lying.{is_whole, lie_in_leaves, put_lies};
 
 use r4_base::{BLOCK_BYTES, Key, Memory, Value};
 use r4_content::{Edits, Interval};
-use r4_extent_demands::is_of_body;
-use r4_leaf::bytes_after;
-use r4_leaf_edits::{edits_of_leaf, touches_leaf};
-use r4_measure::Cell;
+use r4_extent_change::Cell;
+use r4_twig_asks::{bytes_after, edits_of_leaf, is_of_body, touches_leaf};
 use std::alloc::Global;
 use std::sync::Arc;
 

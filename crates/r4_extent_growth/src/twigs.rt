@@ -8,12 +8,12 @@ ghost use Rattle.std.specs.List.{list_all};
 ghost use Rattle.std.specs.Option.{option_map};
 ghost use Rattle.r4_base.specs.Key.{rank};
 ghost use Rattle.r4_content.specs.Held.{edits_of};
-ghost use Rattle.r4_measure.specs.r4_branch.Pieces.{last_end};
-ghost use Rattle.r4_measure.specs.r4_cell.Seen.{CellSeen};
-ghost use Rattle.r4_measure.specs.r4_path.TwigPieces.{ArePiecesOf, twig_pieces};
-ghost use Rattle.r4_extent_build.specs.Numbering.{coming_count, has_block_at, is_coming};
-ghost use Rattle.r4_extent_build.specs.Numbering.{is_told_block};
-ghost use Rattle.r4_extent_demands.specs.Sizes.{AreExtentEdits, IsSizedBody};
+ghost use Rattle.r4_extent_change.specs.r4_measure.r4_branch.Pieces.{last_end};
+ghost use Rattle.r4_extent_change.specs.r4_measure.r4_cell.Seen.{CellSeen};
+ghost use Rattle.r4_extent_change.specs.r4_measure.r4_path.TwigPieces.{ArePiecesOf, twig_pieces};
+ghost use Rattle.r4_extent_change.specs.r4_extent_build.Numbering.{coming_count, has_block_at, is_coming};
+ghost use Rattle.r4_extent_change.specs.r4_extent_build.Numbering.{is_told_block};
+ghost use Rattle.r4_twig_asks.specs.r4_extent_demands.Sizes.{AreExtentEdits, IsSizedBody};
 ghost use Rattle.r4_extent_change.specs.Beside.{is_turning, turning_among};
 ghost use Rattle.r4_extent_growth.specs.Turning.{comes_into, ends_by, has_gap, has_next, is_open_by};
 ghost use Rattle.r4_extent_growth.specs.Turning.{is_clear, may_be_packed, may_turn_all};
@@ -23,11 +23,11 @@ use crate::coming::is_turning;
 use crate::lying::has_block;
 use r4_base::{Key, Memory, UNPLACED};
 use r4_content::Edits;
-use r4_extent_demands::{SizedBody, comes_first, pieces_after, unit_end};
-use r4_graft::{TwigPart, TwigPiece, place_of};
-use r4_leaf_edits::pieces_of_cell;
-use r4_measure::Cell;
-use r4_twig_asks::twig_bytes;
+use r4_extent_change::Cell;
+use r4_twig_asks::{
+    SizedBody, TwigPart, TwigPiece, comes_first, pieces_after, pieces_of_cell, place_of,
+    twig_bytes, unit_end,
+};
 use std::alloc::Global;
 use std::sync::Arc;
 

@@ -4,19 +4,19 @@ use Rattle.std.specs.Prelude.{◌↔◌, Contains, Option}
 use Rattle.r4_base.specs.Tree.{Holds, Node, Root, Store}
 use Rattle.r4_base.specs.Value.{Value}
 use Rattle.r4_base.specs.declared.key.Key.{Key}
-use Rattle.r4_branch.specs.Pieces.{units_of}
-use Rattle.r4_branch.specs.declared.piece.TwigPiece.{TwigPiece}
-use Rattle.r4_cell.specs.Seen.{CellSeen, node_of}
-use Rattle.r4_cell.specs.declared.change.Fresh.{Fresh}
+use Rattle.r4_extent_build.specs.r4_branch.Pieces.{units_of}
+use Rattle.r4_extent_build.specs.r4_branch.declared.piece.TwigPiece.{TwigPiece}
+use Rattle.r4_extent_build.specs.r4_cell.Seen.{CellSeen, node_of}
+use Rattle.r4_extent_build.specs.r4_cell.declared.change.Fresh.{Fresh}
 use Rattle.r4_content.specs.Edited.{Edits}
-use Rattle.r4_measure.specs.Grafting.{Beside, comes_below}
-use Rattle.r4_patch.specs.Effect.{Placed}
-use Rattle.r4_patch.proofs.Members.{here, later}
-use Rattle.r4_reach.specs.Touched.{Body}
+use Rattle.r4_extent_build.specs.r4_measure.Grafting.{Beside, comes_below}
+use Rattle.r4_extent_build.specs.r4_patch.Effect.{Placed}
+use Rattle.r4_extent_build.proofs.r4_patch.Members.{here, later}
+use Rattle.r4_extent_build.specs.r4_reach.Touched.{Body}
 use Rattle.r4_extent_build.specs.r4_twig_turns.Turning.{CanRegraftAll, behind}
-use Rattle.r4_twig_work.specs.Regrafting.{SetsBelow, StandsBelow}
-use Rattle.r4_work.specs.Remaking.{Changes}
-use Rattle.r4_work.specs.declared.working.WorkingSet.{WorkingSet}
+use Rattle.r4_extent_build.specs.r4_twig_work.Regrafting.{SetsBelow, StandsBelow}
+use Rattle.r4_extent_build.specs.r4_work.Remaking.{Changes}
+use Rattle.r4_extent_build.specs.r4_work.declared.working.WorkingSet.{WorkingSet}
 use Rattle.r4_extent_build.proofs.Changing.{changes_both, changes_none}
 use Rattle.r4_extent_build.specs.Looping.{AreTurned}
 use Rattle.r4_extent_loss.specs.Losing.{IsLosing, IsLossOf, Loss, in_gone, losing_turn, no_value}

@@ -4,20 +4,20 @@ use Rattle.std.specs.Prelude.{Contains, Some}
 use Rattle.r4_base.specs.Tree.{Root, Store}
 use Rattle.r4_base.specs.Value.{Value}
 use Rattle.r4_base.specs.declared.key.Key.{Key}
-use Rattle.r4_cell.specs.Seen.{CellSeen, node_of}
-use Rattle.r4_cell.specs.declared.change.Fresh.{Fresh}
+use Rattle.r4_extent_build.specs.r4_cell.Seen.{CellSeen, node_of}
+use Rattle.r4_extent_build.specs.r4_cell.declared.change.Fresh.{Fresh}
 use Rattle.r4_content.specs.Edited.{Edits}
-use Rattle.r4_measure.specs.Budget.{Budget, most_from}
-use Rattle.r4_measure.proofs.Loop.{of_id}
-use Rattle.r4_patch.specs.Joining.{ids_of}
-use Rattle.r4_patch.proofs.Members.{Distinct, distinct, here, later}
-use Rattle.r4_path.specs.Grafts.{extra_twigs}
-use Rattle.r4_reach.specs.Needs.{pieces_after}
-use Rattle.r4_reach.specs.Touched.{Body}
+use Rattle.r4_extent_build.specs.r4_measure.Budget.{Budget, most_from}
+use Rattle.r4_extent_build.proofs.r4_measure.Loop.{of_id}
+use Rattle.r4_extent_build.specs.r4_patch.Joining.{ids_of}
+use Rattle.r4_extent_build.proofs.r4_patch.Members.{Distinct, distinct, here, later}
+use Rattle.r4_extent_build.specs.r4_path.Grafts.{extra_twigs}
+use Rattle.r4_extent_build.specs.r4_reach.Needs.{pieces_after}
+use Rattle.r4_extent_build.specs.r4_reach.Touched.{Body}
 use Rattle.r4_extent_build.specs.r4_twig_turns.Turning.{AreReady, TurnAtMost, come_at_most}
 use Rattle.r4_extent_build.proofs.r4_twig_turns.TurnByTurn.{all_turns, few_stand}
-use Rattle.r4_work.specs.Working.{IsWorking, root_of, standing}
-use Rattle.r4_work.specs.declared.working.WorkingSet.{WorkingSet}
+use Rattle.r4_extent_build.specs.r4_work.Working.{IsWorking, root_of, standing}
+use Rattle.r4_extent_build.specs.r4_work.declared.working.WorkingSet.{WorkingSet}
 use Rattle.r4_extent_loss.specs.Losing.{IsLosing, Loss}
 use Rattle.r4_extent_loss.specs.LosingEach.{CanLoseAll, IsLossIn, MayGo, losing_turns}
 use Rattle.r4_extent_loss.proofs.InParts.{loss_of_part}

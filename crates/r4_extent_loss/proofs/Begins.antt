@@ -4,15 +4,15 @@ use Rattle.std.specs.Prelude.{Contains}
 use Rattle.std.proofs.lemmas.Bool.{cases_lt}
 use Rattle.std.proofs.lemmas.List.Elements.{Contains-append_cases, Contains-append_left, Contains-append_right}
 use Rattle.r4_base.specs.Key.{later as key_later, rank}
-use Rattle.r4_branch.specs.Pieces.{Follow, IsSound, piece_end}
-use Rattle.r4_branch.specs.declared.piece.TwigPiece.{TwigPiece}
-use Rattle.r4_edit.specs.CutBlocks.{BeginsAt, parted_twice, pieces_behind, pieces_below, pieces_between}
-use Rattle.r4_edit.proofs.CutParts.{AreSplit, border_again, split}
-use Rattle.r4_graft.specs.Splices.{IsBorder, blocks_past, first_blocks, parted, parted_piece}
-use Rattle.r4_graft.proofs.Halves.{later_rank}
-use Rattle.r4_graft.proofs.Parted.{halved_or_not, parted_follow}
-use Rattle.r4_graft.proofs.Placed.{follow_above, has_end, take_below}
-use Rattle.r4_patch.proofs.Members.{cases, here, later, none}
+use Rattle.r4_extent_build.specs.r4_branch.Pieces.{Follow, IsSound, piece_end}
+use Rattle.r4_extent_build.specs.r4_branch.declared.piece.TwigPiece.{TwigPiece}
+use Rattle.r4_extent_build.specs.r4_edit.CutBlocks.{BeginsAt, parted_twice, pieces_behind, pieces_below, pieces_between}
+use Rattle.r4_extent_build.proofs.r4_edit.CutParts.{AreSplit, border_again, split}
+use Rattle.r4_extent_build.specs.r4_graft.Splices.{IsBorder, blocks_past, first_blocks, parted, parted_piece}
+use Rattle.r4_extent_build.proofs.r4_graft.Halves.{later_rank}
+use Rattle.r4_extent_build.proofs.r4_graft.Parted.{halved_or_not, parted_follow}
+use Rattle.r4_extent_build.proofs.r4_graft.Placed.{follow_above, has_end, take_below}
+use Rattle.r4_extent_build.proofs.r4_patch.Members.{cases, here, later, none}
 
 -- one of the pieces begins at the key
 abbrev HasFirst : (key : ℕ) → List TwigPiece → Type 0

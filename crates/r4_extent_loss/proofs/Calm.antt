@@ -6,20 +6,20 @@ use Rattle.std.proofs.lemmas.Bool.{eqb-true}
 use Rattle.r4_base.specs.Extents.{is_hole}
 use Rattle.r4_base.specs.Key.{key_of_rank, offset_of, rank}
 use Rattle.r4_base.specs.declared.key.Key.{Key}
-use Rattle.r4_branch.specs.Pieces.{Follow, IsSound, IsSoundPart, part_end, piece_end}
-use Rattle.r4_branch.specs.declared.piece.TwigPart.{TwigPart}
-use Rattle.r4_branch.specs.declared.piece.TwigPart.TheVariants.{Blocks, Pointer}
-use Rattle.r4_branch.specs.declared.piece.TwigPiece.{TwigPiece}
+use Rattle.r4_extent_build.specs.r4_branch.Pieces.{Follow, IsSound, IsSoundPart, part_end, piece_end}
+use Rattle.r4_extent_build.specs.r4_branch.declared.piece.TwigPart.{TwigPart}
+use Rattle.r4_extent_build.specs.r4_branch.declared.piece.TwigPart.TheVariants.{Blocks, Pointer}
+use Rattle.r4_extent_build.specs.r4_branch.declared.piece.TwigPiece.{TwigPiece}
 use Rattle.r4_content.specs.Edited.{Edits}
-use Rattle.r4_graft.proofs.Placed.{has_end}
-use Rattle.r4_leaf.specs.Units.{is_between}
-use Rattle.r4_leaf_edits.proofs.KeyRanks.{key_again}
-use Rattle.r4_reach.specs.Needs.{filled, gets_bytes, runs}
-use Rattle.r4_reach.specs.Touched.{Body, coming, first_byte, going}
-use Rattle.r4_work.proofs.UnitMembers.{between}
+use Rattle.r4_extent_build.proofs.r4_graft.Placed.{has_end}
+use Rattle.r4_extent_build.specs.r4_leaf.Units.{is_between}
+use Rattle.r4_extent_build.proofs.r4_leaf_edits.KeyRanks.{key_again}
+use Rattle.r4_extent_build.specs.r4_reach.Needs.{filled, gets_bytes, runs}
+use Rattle.r4_extent_build.specs.r4_reach.Touched.{Body, coming, first_byte, going}
+use Rattle.r4_extent_build.proofs.r4_work.UnitMembers.{between}
 use Rattle.r4_extent_build.specs.Growing.{end_after, end_before}
-use Rattle.r4_extent_demands.proofs.Low.{at_offset}
-use Rattle.r4_extent_demands.proofs.Runs.{hole_some, quiet_runs}
+use Rattle.r4_extent_build.proofs.r4_extent_demands.Low.{at_offset}
+use Rattle.r4_extent_build.proofs.r4_extent_demands.Runs.{hole_some, quiet_runs}
 use Rattle.r4_extent_loss.specs.Losing.{IsLosing}
 
 module _ (b : Body) (first : Key) (e : Edits) (g : IsLosing b first e) where

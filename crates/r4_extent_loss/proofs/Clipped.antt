@@ -5,14 +5,14 @@ use Rattle.std.proofs.lemmas.Bool.{cases_lt, le-ltb, lt-ltb}
 use Rattle.r4_base.specs.Key.{rank}
 use Rattle.r4_base.specs.Tree.{Node}
 use Rattle.r4_base.specs.Value.{Value}
-use Rattle.r4_branch.specs.Pieces.{Follow, piece_end}
-use Rattle.r4_branch.specs.declared.piece.TwigPiece.{TwigPiece}
+use Rattle.r4_extent_build.specs.r4_branch.Pieces.{Follow, piece_end}
+use Rattle.r4_extent_build.specs.r4_branch.declared.piece.TwigPiece.{TwigPiece}
 use Rattle.r4_content.specs.Bodies.{larger, smaller}
-use Rattle.r4_edit.specs.CutBlocks.{parted_twice, pieces_behind, pieces_below, pieces_between}
-use Rattle.r4_graft.specs.Splices.{IsBorder, halves, is_within, parted, parted_piece, place, spliced}
-use Rattle.r4_graft.proofs.Parted.{parted_follow, parted_none}
-use Rattle.r4_graft.proofs.Placed.{follow_end, has_end, place_none, place_some}
-use Rattle.r4_reach.specs.Needs.{cut_pieces, taken_up}
+use Rattle.r4_extent_build.specs.r4_edit.CutBlocks.{parted_twice, pieces_behind, pieces_below, pieces_between}
+use Rattle.r4_extent_build.specs.r4_graft.Splices.{IsBorder, halves, is_within, parted, parted_piece, place, spliced}
+use Rattle.r4_extent_build.proofs.r4_graft.Parted.{parted_follow, parted_none}
+use Rattle.r4_extent_build.proofs.r4_graft.Placed.{follow_end, has_end, place_none, place_some}
+use Rattle.r4_extent_build.specs.r4_reach.Needs.{cut_pieces, taken_up}
 
 pub larger_low : (a b : ℕ) → b ≤ a → larger a b ≡ a
 larger_low a b le = ap (λ (t : Bool). cond t b a) (le-ltb a b le)

@@ -3,13 +3,13 @@ use Rattle.std.proofs.Common.{◌≡◌, ◌+◌, ◌≤◌, List, ◌∷◌, sy
 use Rattle.std.proofs.lemmas.List.Sums.{sum_by-cons}
 use Rattle.r4_base.specs.Tree.{Root, Store}
 use Rattle.r4_base.specs.Value.{Value}
-use Rattle.r4_cell.specs.declared.change.Fresh.{Fresh}
+use Rattle.r4_extent_build.specs.r4_cell.declared.change.Fresh.{Fresh}
 use Rattle.r4_content.specs.Edited.{Edits}
-use Rattle.r4_patch.proofs.Members.{here, later}
-use Rattle.r4_reach.specs.Touched.{Body}
+use Rattle.r4_extent_build.proofs.r4_patch.Members.{here, later}
+use Rattle.r4_extent_build.specs.r4_reach.Touched.{Body}
 use Rattle.r4_extent_build.specs.r4_twig_turns.Turning.{IsTurned, TwigTurn, behind, own_of}
-use Rattle.r4_twig_work.specs.Regrafting.{DoesBelow, IsRegraftable}
-use Rattle.r4_work.specs.declared.working.WorkingSet.{WorkingSet}
+use Rattle.r4_extent_build.specs.r4_twig_work.Regrafting.{DoesBelow, IsRegraftable}
+use Rattle.r4_extent_build.specs.r4_work.declared.working.WorkingSet.{WorkingSet}
 use Rattle.r4_extent_build.specs.Looping.{AreTurned}
 use Rattle.r4_extent_loss.specs.Losing.{IsLossOf, Loss, losing_turn}
 use Rattle.r4_extent_loss.specs.LosingEach.{CanLoseAll, losing_turns}

@@ -7,19 +7,19 @@ use Rattle.std.proofs.lemmas.List.Elements.{Contains-append_left, Contains-appen
 use Rattle.std.proofs.lemmas.Option.{same_Some}
 use Rattle.r4_base.specs.Tree.{IsNode, Name, Node, Root, Store}
 use Rattle.r4_base.specs.Value.{Value}
-use Rattle.r4_cell.specs.Patch.{HaveNames}
-use Rattle.r4_cell.specs.Seen.{CellSeen, node_of}
-use Rattle.r4_cell.specs.declared.change.Fresh.{Fresh}
-use Rattle.r4_edit.specs.Extents.{given_cells}
-use Rattle.r4_twig_work.proofs.r4_extent_edit.ExtentEffect.{is_on}
-use Rattle.r4_patch.specs.Part.{IsPart}
-use Rattle.r4_patch.proofs.Members.{cases, distinct, distinct_append, have_names, none}
-use Rattle.r4_path.specs.Steps.{name_of}
-use Rattle.r4_path.proofs.Rising.{level_is}
-use Rattle.r4_reach.specs.Touched.{Body}
-use Rattle.r4_work.specs.Working.{IsWorking, now_of, root_of}
-use Rattle.r4_work.specs.declared.working.WorkingSet.{WorkingSet}
-use Rattle.r4_work.proofs.InPlace.{now_part, standing_is}
+use Rattle.r4_extent_build.specs.r4_cell.Patch.{HaveNames}
+use Rattle.r4_extent_build.specs.r4_cell.Seen.{CellSeen, node_of}
+use Rattle.r4_extent_build.specs.r4_cell.declared.change.Fresh.{Fresh}
+use Rattle.r4_extent_build.specs.r4_edit.Extents.{given_cells}
+use Rattle.r4_extent_build.proofs.r4_twig_work.r4_extent_edit.ExtentEffect.{is_on}
+use Rattle.r4_extent_build.specs.r4_patch.Part.{IsPart}
+use Rattle.r4_extent_build.proofs.r4_patch.Members.{cases, distinct, distinct_append, have_names, none}
+use Rattle.r4_extent_build.specs.r4_path.Steps.{name_of}
+use Rattle.r4_extent_build.proofs.r4_path.Rising.{level_is}
+use Rattle.r4_extent_build.specs.r4_reach.Touched.{Body}
+use Rattle.r4_extent_build.specs.r4_work.Working.{IsWorking, now_of, root_of}
+use Rattle.r4_extent_build.specs.r4_work.declared.working.WorkingSet.{WorkingSet}
+use Rattle.r4_extent_build.proofs.r4_work.InPlace.{now_part, standing_is}
 use Rattle.r4_extent_loss.specs.Losing.{IsLeft, IsLossOf, Loss, gone_from, gone_to}
 use Rattle.r4_extent_loss.specs.LosingEach.{IsLossIn}
 

@@ -15,4 +15,5 @@ pub mod LossChanges
 pub mod LossCounts
 pub mod Begins
 -- what crates above name by way of this one
-pub use Rattle.r4_twig_work.proofs.r4_extent_edit
+pub use Rattle.r4_extent_build.proofs.r4_twig_work.r4_extent_edit
+pub use Rattle.r4_extent_build.proofs as r4_extent_build

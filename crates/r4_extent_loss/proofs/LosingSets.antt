@@ -10,26 +10,26 @@ use Rattle.r4_base.specs.Node.{items_of, mkfs_id_of}
 use Rattle.r4_base.specs.Tree.{Holds, InName, IsData, IsNode, Name}
 use Rattle.r4_base.specs.Value.{Value}
 use Rattle.r4_base.specs.declared.key.Key.{Key}
-use Rattle.r4_branch.specs.Pieces.{units_of}
-use Rattle.r4_branch.specs.declared.piece.TwigPiece.{TwigPiece}
-use Rattle.r4_cell.specs.Seen.{CellSeen, node_of}
+use Rattle.r4_extent_build.specs.r4_branch.Pieces.{units_of}
+use Rattle.r4_extent_build.specs.r4_branch.declared.piece.TwigPiece.{TwigPiece}
+use Rattle.r4_extent_build.specs.r4_cell.Seen.{CellSeen, node_of}
 use Rattle.r4_content.specs.Edited.{Edits}
-use Rattle.r4_edit.specs.Extents.{given_cells}
-use Rattle.r4_edit.proofs.NewLeaves.{leaf_node}
-use Rattle.r4_twig_work.proofs.r4_extent_edit.ExtentEffect.{both_ways, is_off, is_on}
-use Rattle.r4_twig_work.proofs.r4_extent_edit.PutEffect.{cut_members}
-use Rattle.r4_twig_work.proofs.r4_extent_edit.WholeBlocks.{whole_blocks}
-use Rattle.r4_leaf.specs.Units.{cut_units}
-use Rattle.r4_leaf.proofs.Lying.{units_nil}
-use Rattle.r4_patch.specs.Effect.{Placed}
-use Rattle.r4_patch.proofs.Holding.{find_name}
-use Rattle.r4_patch.proofs.Members.{cases, here, none}
-use Rattle.r4_path.specs.Steps.{name_of}
-use Rattle.r4_path.proofs.CellNodes.{units_are}
-use Rattle.r4_path.proofs.Rising.{in_cell, in_node, level_is}
-use Rattle.r4_reach.specs.Touched.{Body}
-use Rattle.r4_twig_work.specs.Regrafting.{SetsBelow, StandsBelow}
-use Rattle.r4_work.proofs.UnitMembers.{between}
+use Rattle.r4_extent_build.specs.r4_edit.Extents.{given_cells}
+use Rattle.r4_extent_build.proofs.r4_edit.NewLeaves.{leaf_node}
+use Rattle.r4_extent_build.proofs.r4_twig_work.r4_extent_edit.ExtentEffect.{both_ways, is_off, is_on}
+use Rattle.r4_extent_build.proofs.r4_twig_work.r4_extent_edit.PutEffect.{cut_members}
+use Rattle.r4_extent_build.proofs.r4_twig_work.r4_extent_edit.WholeBlocks.{whole_blocks}
+use Rattle.r4_extent_build.specs.r4_leaf.Units.{cut_units}
+use Rattle.r4_extent_build.proofs.r4_leaf.Lying.{units_nil}
+use Rattle.r4_extent_build.specs.r4_patch.Effect.{Placed}
+use Rattle.r4_extent_build.proofs.r4_patch.Holding.{find_name}
+use Rattle.r4_extent_build.proofs.r4_patch.Members.{cases, here, none}
+use Rattle.r4_extent_build.specs.r4_path.Steps.{name_of}
+use Rattle.r4_extent_build.proofs.r4_path.CellNodes.{units_are}
+use Rattle.r4_extent_build.proofs.r4_path.Rising.{in_cell, in_node, level_is}
+use Rattle.r4_extent_build.specs.r4_reach.Touched.{Body}
+use Rattle.r4_extent_build.specs.r4_twig_work.Regrafting.{SetsBelow, StandsBelow}
+use Rattle.r4_extent_build.proofs.r4_work.UnitMembers.{between}
 use Rattle.r4_extent_loss.specs.Losing.{IsLeft, IsLosing, IsLossOf, Loss, gone_from, gone_to, in_gone, losing_turn, no_value, taken_block, taken_id}
 use Rattle.r4_extent_loss.proofs.LosingTurns.{cells, come_is, each, end, fresh_leaf, qs, qs_are, come}
 use Rattle.r4_extent_loss.proofs.LostPieces.{high, low}

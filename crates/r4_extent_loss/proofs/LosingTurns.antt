@@ -9,27 +9,27 @@ use Rattle.r4_base.specs.Key.{rank}
 use Rattle.r4_base.specs.Node.{Item, KeysRise, PluginsFit, level_of, mkfs_id_of}
 use Rattle.r4_base.specs.Tree.{IsNode, Name}
 use Rattle.r4_base.specs.declared.key.Key.{Key}
-use Rattle.r4_branch.specs.Pieces.{AreTwigPieces, names_of, next_of, twig_bytes}
-use Rattle.r4_branch.specs.declared.piece.TwigPiece.{TwigPiece}
-use Rattle.r4_cell.specs.Seen.{CellSeen, node_of}
+use Rattle.r4_extent_build.specs.r4_branch.Pieces.{AreTwigPieces, names_of, next_of, twig_bytes}
+use Rattle.r4_extent_build.specs.r4_branch.declared.piece.TwigPiece.{TwigPiece}
+use Rattle.r4_extent_build.specs.r4_cell.Seen.{CellSeen, node_of}
 use Rattle.r4_content.specs.Edited.{Edits}
-use Rattle.r4_edit.specs.CutBlocks.{next_key, pointer_over}
-use Rattle.r4_edit.specs.Extents.{given_cells}
-use Rattle.r4_edit.specs.LeafParts.{IsWidened}
-use Rattle.r4_edit.proofs.CutGraft.{may_be_named}
-use Rattle.r4_edit.proofs.CutTaken.{next_higher, next_is}
-use Rattle.r4_edit.proofs.NewLeaves.{leaf_node, none_fits, wide_leaf}
-use Rattle.r4_graft.proofs.FoundPlaces.{next_lower}
-use Rattle.r4_node40.specs.Laid.{fresh_node}
-use Rattle.r4_node40.proofs.Fresh.{fresh}
-use Rattle.r4_patch.specs.Joining.{ids_of}
-use Rattle.r4_patch.proofs.Members.{Distinct, cases, have_names, here, none}
-use Rattle.r4_path.specs.Nodes.{IsNodeOf}
-use Rattle.r4_path.specs.Sharing.{IsSound}
-use Rattle.r4_path.specs.Steps.{CountUp, IsNameOf, name_of}
-use Rattle.r4_path.proofs.Rising.{hi_is, id_member, lo_is}
-use Rattle.r4_reach.specs.Needs.{pieces_after}
-use Rattle.r4_reach.specs.Touched.{Body}
+use Rattle.r4_extent_build.specs.r4_edit.CutBlocks.{next_key, pointer_over}
+use Rattle.r4_extent_build.specs.r4_edit.Extents.{given_cells}
+use Rattle.r4_extent_build.specs.r4_edit.LeafParts.{IsWidened}
+use Rattle.r4_extent_build.proofs.r4_edit.CutGraft.{may_be_named}
+use Rattle.r4_extent_build.proofs.r4_edit.CutTaken.{next_higher, next_is}
+use Rattle.r4_extent_build.proofs.r4_edit.NewLeaves.{leaf_node, none_fits, wide_leaf}
+use Rattle.r4_extent_build.proofs.r4_graft.FoundPlaces.{next_lower}
+use Rattle.r4_extent_build.specs.r4_node40.Laid.{fresh_node}
+use Rattle.r4_extent_build.proofs.r4_node40.Fresh.{fresh}
+use Rattle.r4_extent_build.specs.r4_patch.Joining.{ids_of}
+use Rattle.r4_extent_build.proofs.r4_patch.Members.{Distinct, cases, have_names, here, none}
+use Rattle.r4_extent_build.specs.r4_path.Nodes.{IsNodeOf}
+use Rattle.r4_extent_build.specs.r4_path.Sharing.{IsSound}
+use Rattle.r4_extent_build.specs.r4_path.Steps.{CountUp, IsNameOf, name_of}
+use Rattle.r4_extent_build.proofs.r4_path.Rising.{hi_is, id_member, lo_is}
+use Rattle.r4_extent_build.specs.r4_reach.Needs.{pieces_after}
+use Rattle.r4_extent_build.specs.r4_reach.Touched.{Body}
 use Rattle.r4_extent_build.specs.r4_twig_turns.Turning.{IsTurnOf}
 use Rattle.r4_extent_loss.specs.Losing.{IsLeft, IsLosing, IsLossOf, Loss, gone_to, leaf_at, losing_turn, numbers_taken, parted_pieces, taken_block, taken_from, taken_id, taken_pieces, with_leaf}
 use Rattle.r4_extent_loss.proofs.LostPieces.{after_is, all_bytes, all_first, all_follow, all_names, rest, some}

@@ -9,28 +9,28 @@ use Rattle.r4_base.specs.Node.{items_of}
 use Rattle.r4_base.specs.Tree.{Name, Span}
 use Rattle.r4_base.specs.declared.key.Key.{Key}
 use Rattle.r4_base.specs.declared.things.NodeId.{NodeId}
-use Rattle.r4_branch.specs.Pieces.{Follow, IsSound, names_of, next_of, part_end, part_names, piece_end, pieces_in}
-use Rattle.r4_branch.specs.declared.piece.TwigPart.{TwigPart}
-use Rattle.r4_branch.specs.declared.piece.TwigPart.TheVariants.{Blocks, Pointer}
-use Rattle.r4_branch.specs.declared.piece.TwigPiece.{TwigPiece}
-use Rattle.r4_cell.specs.Seen.{CellSeen, node_of}
+use Rattle.r4_extent_build.specs.r4_branch.Pieces.{Follow, IsSound, names_of, next_of, part_end, part_names, piece_end, pieces_in}
+use Rattle.r4_extent_build.specs.r4_branch.declared.piece.TwigPart.{TwigPart}
+use Rattle.r4_extent_build.specs.r4_branch.declared.piece.TwigPart.TheVariants.{Blocks, Pointer}
+use Rattle.r4_extent_build.specs.r4_branch.declared.piece.TwigPiece.{TwigPiece}
+use Rattle.r4_extent_build.specs.r4_cell.Seen.{CellSeen, node_of}
 use Rattle.r4_content.specs.Bodies.{larger, smaller}
 use Rattle.r4_content.specs.Edited.{Edits, is_between}
-use Rattle.r4_edit.specs.CutBlocks.{BeginsAt}
-use Rattle.r4_edit.proofs.CutParts.{border_again}
+use Rattle.r4_extent_build.specs.r4_edit.CutBlocks.{BeginsAt}
+use Rattle.r4_extent_build.proofs.r4_edit.CutParts.{border_again}
 use Rattle.r4_extent_build.specs.Growing.{end_after, end_before}
-use Rattle.r4_extent_demands.proofs.Changes.{changes_is}
-use Rattle.r4_extent_demands.proofs.PutsInto.{any_there, there_any}
-use Rattle.r4_extent_demands.specs.Changing.{changes_units, comes_in, goes_from, is_changed, is_other, is_refilled}
-use Rattle.r4_graft.specs.Splices.{IsBorder, blocks_past, first_blocks, parted, parted_piece}
-use Rattle.r4_graft.proofs.Halves.{later_rank}
-use Rattle.r4_graft.proofs.Parted.{halved_or_not, parted_follow}
-use Rattle.r4_graft.proofs.Placed.{follow_above, has_end}
-use Rattle.r4_measure.proofs.Kept.{block_is}
-use Rattle.r4_patch.proofs.Members.{cases, here, later, none}
-use Rattle.r4_path.specs.TwigPieces.{ArePiecesOf, twig_pieces}
-use Rattle.r4_reach.specs.Needs.{changes_pieces, goes_in, is_hole_part, put_among}
-use Rattle.r4_reach.specs.Touched.{Body, coming, going}
+use Rattle.r4_extent_build.proofs.r4_extent_demands.Changes.{changes_is}
+use Rattle.r4_extent_build.proofs.r4_extent_demands.PutsInto.{any_there, there_any}
+use Rattle.r4_extent_build.specs.r4_extent_demands.Changing.{changes_units, comes_in, goes_from, is_changed, is_other, is_refilled}
+use Rattle.r4_extent_build.specs.r4_graft.Splices.{IsBorder, blocks_past, first_blocks, parted, parted_piece}
+use Rattle.r4_extent_build.proofs.r4_graft.Halves.{later_rank}
+use Rattle.r4_extent_build.proofs.r4_graft.Parted.{halved_or_not, parted_follow}
+use Rattle.r4_extent_build.proofs.r4_graft.Placed.{follow_above, has_end}
+use Rattle.r4_extent_build.proofs.r4_measure.Kept.{block_is}
+use Rattle.r4_extent_build.proofs.r4_patch.Members.{cases, here, later, none}
+use Rattle.r4_extent_build.specs.r4_path.TwigPieces.{ArePiecesOf, twig_pieces}
+use Rattle.r4_extent_build.specs.r4_reach.Needs.{changes_pieces, goes_in, is_hole_part, put_among}
+use Rattle.r4_extent_build.specs.r4_reach.Touched.{Body, coming, going}
 use Rattle.r4_extent_loss.specs.Losing.{IsLosing, IsLossOf, Loss, gone_from, gone_to}
 use Rattle.r4_extent_loss.proofs.Calm.{calm_piece, coming_is, going_is}
 use Rattle.r4_extent_loss.proofs.Clipped.{follow_order, larger_high, larger_low, smaller_high, smaller_low}

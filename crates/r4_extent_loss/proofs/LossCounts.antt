@@ -4,17 +4,17 @@ use Rattle.std.specs.Prelude.{Option, None, Some, if◌then◌else◌}
 use Rattle.r4_base.specs.Key.{rank}
 use Rattle.r4_base.specs.Node.{items_of}
 use Rattle.r4_base.specs.declared.key.Key.{Key}
-use Rattle.r4_branch.specs.Pieces.{is_at, last_end, pieces_in}
-use Rattle.r4_branch.specs.declared.piece.TwigPart.TheVariants.{Pointer}
-use Rattle.r4_branch.specs.declared.piece.TwigPiece.{TwigPiece}
-use Rattle.r4_cell.specs.Seen.{CellSeen, node_of}
+use Rattle.r4_extent_build.specs.r4_branch.Pieces.{is_at, last_end, pieces_in}
+use Rattle.r4_extent_build.specs.r4_branch.declared.piece.TwigPart.TheVariants.{Pointer}
+use Rattle.r4_extent_build.specs.r4_branch.declared.piece.TwigPiece.{TwigPiece}
+use Rattle.r4_extent_build.specs.r4_cell.Seen.{CellSeen, node_of}
 use Rattle.r4_content.specs.Edited.{Edits}
-use Rattle.r4_edit.specs.CutBlocks.{next_key, pointer_for, pointer_over}
+use Rattle.r4_extent_build.specs.r4_edit.CutBlocks.{next_key, pointer_for, pointer_over}
 use Rattle.r4_extent_build.specs.Growing.{end_after, end_before}
-use Rattle.r4_graft.specs.Splices.{parted, place}
-use Rattle.r4_measure.proofs.Kept.{block_is}
-use Rattle.r4_reach.specs.Needs.{pieces_after, taken_up}
-use Rattle.r4_reach.specs.Touched.{Body, going}
+use Rattle.r4_extent_build.specs.r4_graft.Splices.{parted, place}
+use Rattle.r4_extent_build.proofs.r4_measure.Kept.{block_is}
+use Rattle.r4_extent_build.specs.r4_reach.Needs.{pieces_after, taken_up}
+use Rattle.r4_extent_build.specs.r4_reach.Touched.{Body, going}
 use Rattle.r4_extent_loss.specs.Losing.{IsLosing, IsLossOf, Loss, leaf_at, losing_turn, numbers_taken, taken_block, taken_from}
 use Rattle.r4_extent_loss.proofs.Calm.{going_is}
 use Rattle.r4_extent_loss.proofs.Clipped.{clipped_taken}

@@ -8,23 +8,23 @@ use Rattle.r4_base.specs.Key.{rank}
 use Rattle.r4_base.specs.Node.{items_of}
 use Rattle.r4_base.specs.Tree.{Name}
 use Rattle.r4_base.specs.declared.key.Key.{Key}
-use Rattle.r4_branch.specs.Pieces.{Follow, is_at, last_end, names_of, next_of, pieces_in, twig_bytes}
-use Rattle.r4_branch.specs.declared.piece.TwigPart.TheVariants.{Pointer}
-use Rattle.r4_branch.specs.declared.piece.TwigPiece.{TwigPiece}
-use Rattle.r4_cell.specs.Seen.{CellSeen, node_of}
+use Rattle.r4_extent_build.specs.r4_branch.Pieces.{Follow, is_at, last_end, names_of, next_of, pieces_in, twig_bytes}
+use Rattle.r4_extent_build.specs.r4_branch.declared.piece.TwigPart.TheVariants.{Pointer}
+use Rattle.r4_extent_build.specs.r4_branch.declared.piece.TwigPiece.{TwigPiece}
+use Rattle.r4_extent_build.specs.r4_cell.Seen.{CellSeen, node_of}
 use Rattle.r4_content.specs.Edited.{Edits, is_between}
-use Rattle.r4_edit.specs.CutBlocks.{BeginsAt, pieces_behind, pieces_below, pieces_between, pointer_for}
-use Rattle.r4_edit.proofs.CutGraft.{may_be_named}
-use Rattle.r4_edit.proofs.CutOut.{IsLed, cut_twigs, led_by}
-use Rattle.r4_edit.proofs.CutParts.{AreSplit, split, twice_bytes, twice_follow, twice_names, twice_next}
-use Rattle.r4_graft.specs.Splices.{place, spliced}
-use Rattle.r4_leaf_edits.proofs.KeyRanks.{key_again}
-use Rattle.r4_measure.proofs.Kept.{block_is}
-use Rattle.r4_patch.proofs.Members.{cases, here, later, none}
-use Rattle.r4_path.specs.Steps.{name_of}
-use Rattle.r4_path.specs.TwigPieces.{twig_pieces}
-use Rattle.r4_reach.specs.Needs.{cut_pieces, filled, gets_bytes, has_left_leaf, pieces_after, pointer_at, runs, taken_up, with_coming, without_gone}
-use Rattle.r4_reach.specs.Touched.{Body, coming, going}
+use Rattle.r4_extent_build.specs.r4_edit.CutBlocks.{BeginsAt, pieces_behind, pieces_below, pieces_between, pointer_for}
+use Rattle.r4_extent_build.proofs.r4_edit.CutGraft.{may_be_named}
+use Rattle.r4_extent_build.proofs.r4_edit.CutOut.{IsLed, cut_twigs, led_by}
+use Rattle.r4_extent_build.proofs.r4_edit.CutParts.{AreSplit, split, twice_bytes, twice_follow, twice_names, twice_next}
+use Rattle.r4_extent_build.specs.r4_graft.Splices.{place, spliced}
+use Rattle.r4_extent_build.proofs.r4_leaf_edits.KeyRanks.{key_again}
+use Rattle.r4_extent_build.proofs.r4_measure.Kept.{block_is}
+use Rattle.r4_extent_build.proofs.r4_patch.Members.{cases, here, later, none}
+use Rattle.r4_extent_build.specs.r4_path.Steps.{name_of}
+use Rattle.r4_extent_build.specs.r4_path.TwigPieces.{twig_pieces}
+use Rattle.r4_extent_build.specs.r4_reach.Needs.{cut_pieces, filled, gets_bytes, has_left_leaf, pieces_after, pointer_at, runs, taken_up, with_coming, without_gone}
+use Rattle.r4_extent_build.specs.r4_reach.Touched.{Body, coming, going}
 use Rattle.r4_extent_build.specs.Growing.{end_after, end_before}
 use Rattle.r4_extent_build.proofs.UncutTwigs.{none_gone}
 use Rattle.r4_extent_loss.specs.Losing.{IsLeft, IsLosing, IsLossOf, Loss, gone_from, gone_to, parted_pieces}

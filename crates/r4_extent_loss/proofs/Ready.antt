@@ -4,18 +4,18 @@ use Rattle.std.specs.Prelude.{Some}
 use Rattle.r4_base.specs.Tree.{Root, Store}
 use Rattle.r4_base.specs.Value.{Value}
 use Rattle.r4_base.specs.declared.key.Key.{Key}
-use Rattle.r4_cell.specs.Seen.{node_of}
-use Rattle.r4_cell.specs.declared.change.Fresh.{Fresh}
+use Rattle.r4_extent_build.specs.r4_cell.Seen.{node_of}
+use Rattle.r4_extent_build.specs.r4_cell.declared.change.Fresh.{Fresh}
 use Rattle.r4_content.specs.Edited.{Edits}
-use Rattle.r4_measure.specs.Budget.{Budget}
-use Rattle.r4_path.specs.Grafts.{extra_twigs}
-use Rattle.r4_path.proofs.Rising.{hi_is, level_is, lo_is}
-use Rattle.r4_reach.specs.Needs.{pieces_after}
-use Rattle.r4_reach.specs.Touched.{Body}
+use Rattle.r4_extent_build.specs.r4_measure.Budget.{Budget}
+use Rattle.r4_extent_build.specs.r4_path.Grafts.{extra_twigs}
+use Rattle.r4_extent_build.proofs.r4_path.Rising.{hi_is, level_is, lo_is}
+use Rattle.r4_extent_build.specs.r4_reach.Needs.{pieces_after}
+use Rattle.r4_extent_build.specs.r4_reach.Touched.{Body}
 use Rattle.r4_extent_build.specs.r4_twig_turns.Turning.{IsReady}
-use Rattle.r4_work.specs.Working.{IsWorking}
-use Rattle.r4_work.specs.declared.working.WorkingSet.{WorkingSet}
-use Rattle.r4_work.proofs.InPlace.{standing_is}
+use Rattle.r4_extent_build.specs.r4_work.Working.{IsWorking}
+use Rattle.r4_extent_build.specs.r4_work.declared.working.WorkingSet.{WorkingSet}
+use Rattle.r4_extent_build.proofs.r4_work.InPlace.{standing_is}
 use Rattle.r4_extent_loss.specs.Losing.{IsLosing, IsLossOf, Loss, losing_turn}
 use Rattle.r4_extent_loss.specs.LosingEach.{StandsLoss}
 use Rattle.r4_extent_loss.proofs.LosingTurns.{bytes_are, turn_of}

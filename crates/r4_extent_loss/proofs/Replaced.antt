@@ -5,20 +5,20 @@ use Rattle.r4_base.specs.Cell.{names_block}
 use Rattle.r4_base.specs.Key.{rank}
 use Rattle.r4_base.specs.Tree.{Name}
 use Rattle.r4_base.specs.declared.key.Key.{Key}
-use Rattle.r4_branch.specs.Pieces.{AreTwigPieces, Follow, is_at, last_end, names_of, next_of, piece_end, twig_bytes}
-use Rattle.r4_branch.specs.declared.piece.TwigPart.TheVariants.{Pointer}
-use Rattle.r4_branch.specs.declared.piece.TwigPiece.{TwigPiece}
-use Rattle.r4_cell.specs.Seen.{CellSeen}
-use Rattle.r4_edit.specs.CutBlocks.{pointer_over}
-use Rattle.r4_edit.proofs.CutOut.{exchange, both, nonempty}
-use Rattle.r4_edit.proofs.CutParts.{AreSplit}
-use Rattle.r4_edit.proofs.CutTaken.{over_bytes, over_follow, over_left, over_next}
-use Rattle.r4_graft.proofs.Joined.{follow_join, spliced_bytes}
-use Rattle.r4_graft.proofs.Placed.{follow_end, has_end}
-use Rattle.r4_graft.proofs.SplicedNames.{spliced_names}
-use Rattle.r4_patch.proofs.Members.{cases, none}
-use Rattle.r4_path.specs.Steps.{IsNameOf, name_of}
-use Rattle.r4_path.proofs.Grown.{map_names, names_map}
+use Rattle.r4_extent_build.specs.r4_branch.Pieces.{AreTwigPieces, Follow, is_at, last_end, names_of, next_of, piece_end, twig_bytes}
+use Rattle.r4_extent_build.specs.r4_branch.declared.piece.TwigPart.TheVariants.{Pointer}
+use Rattle.r4_extent_build.specs.r4_branch.declared.piece.TwigPiece.{TwigPiece}
+use Rattle.r4_extent_build.specs.r4_cell.Seen.{CellSeen}
+use Rattle.r4_extent_build.specs.r4_edit.CutBlocks.{pointer_over}
+use Rattle.r4_extent_build.proofs.r4_edit.CutOut.{exchange, both, nonempty}
+use Rattle.r4_extent_build.proofs.r4_edit.CutParts.{AreSplit}
+use Rattle.r4_extent_build.proofs.r4_edit.CutTaken.{over_bytes, over_follow, over_left, over_next}
+use Rattle.r4_extent_build.proofs.r4_graft.Joined.{follow_join, spliced_bytes}
+use Rattle.r4_extent_build.proofs.r4_graft.Placed.{follow_end, has_end}
+use Rattle.r4_extent_build.proofs.r4_graft.SplicedNames.{spliced_names}
+use Rattle.r4_extent_build.proofs.r4_patch.Members.{cases, none}
+use Rattle.r4_extent_build.specs.r4_path.Steps.{IsNameOf, name_of}
+use Rattle.r4_extent_build.proofs.r4_path.Grown.{map_names, names_map}
 
 -- the leaf to which the first of the pieces points
 abbrev pub cells_of : List TwigPiece → (id : ℕ) → (hi : Key) → (block : List ℕ) → List CellSeen

@@ -8,25 +8,25 @@ use Rattle.r4_base.specs.Cell.{names_block}
 use Rattle.r4_base.specs.Key.{offset_of, rank}
 use Rattle.r4_base.specs.Tree.{Name}
 use Rattle.r4_base.specs.declared.key.Key.{Key}
-use Rattle.r4_branch.specs.Pieces.{Follow, IsSoundPart, bytes_behind, is_at, last_end, names_of, next_of, open_end, part_bytes, part_names, part_units, piece_end, twig_bytes, units_of}
-use Rattle.r4_branch.specs.declared.piece.TwigPart.{TwigPart}
-use Rattle.r4_branch.specs.declared.piece.TwigPart.TheVariants.{Pointer}
-use Rattle.r4_branch.specs.declared.piece.TwigPiece.{TwigPiece}
-use Rattle.r4_branch.proofs.ItemPieces.{units_append}
-use Rattle.r4_cell.specs.Seen.{CellSeen, node_of}
-use Rattle.r4_edit.specs.CutBlocks.{BeginsAt, next_key, pieces_below, pieces_between, pointer_over}
-use Rattle.r4_edit.specs.Extents.{given_cells}
-use Rattle.r4_edit.proofs.CutNames.{EndsWithLeaf, between_names, units_without}
-use Rattle.r4_edit.proofs.CutOut.{IsLed}
-use Rattle.r4_edit.proofs.CutParts.{AreSplit, follow_higher, twice_units}
-use Rattle.r4_edit.proofs.CutTaken.{name_append, over_units}
-use Rattle.r4_graft.proofs.Joined.{end_of, follow_lower, follow_parts}
-use Rattle.r4_graft.proofs.Placed.{follow_above, follow_end, has_end, take_below}
-use Rattle.r4_leaf.specs.Units.{cut_units}
-use Rattle.r4_patch.proofs.Members.{cases, here, later, none}
-use Rattle.r4_path.specs.Steps.{IsNameOf, name_of}
-use Rattle.r4_path.proofs.Rising.{lo_is}
-use Rattle.r4_reach.specs.Touched.{Body}
+use Rattle.r4_extent_build.specs.r4_branch.Pieces.{Follow, IsSoundPart, bytes_behind, is_at, last_end, names_of, next_of, open_end, part_bytes, part_names, part_units, piece_end, twig_bytes, units_of}
+use Rattle.r4_extent_build.specs.r4_branch.declared.piece.TwigPart.{TwigPart}
+use Rattle.r4_extent_build.specs.r4_branch.declared.piece.TwigPart.TheVariants.{Pointer}
+use Rattle.r4_extent_build.specs.r4_branch.declared.piece.TwigPiece.{TwigPiece}
+use Rattle.r4_extent_build.proofs.r4_branch.ItemPieces.{units_append}
+use Rattle.r4_extent_build.specs.r4_cell.Seen.{CellSeen, node_of}
+use Rattle.r4_extent_build.specs.r4_edit.CutBlocks.{BeginsAt, next_key, pieces_below, pieces_between, pointer_over}
+use Rattle.r4_extent_build.specs.r4_edit.Extents.{given_cells}
+use Rattle.r4_extent_build.proofs.r4_edit.CutNames.{EndsWithLeaf, between_names, units_without}
+use Rattle.r4_extent_build.proofs.r4_edit.CutOut.{IsLed}
+use Rattle.r4_extent_build.proofs.r4_edit.CutParts.{AreSplit, follow_higher, twice_units}
+use Rattle.r4_extent_build.proofs.r4_edit.CutTaken.{name_append, over_units}
+use Rattle.r4_extent_build.proofs.r4_graft.Joined.{end_of, follow_lower, follow_parts}
+use Rattle.r4_extent_build.proofs.r4_graft.Placed.{follow_above, follow_end, has_end, take_below}
+use Rattle.r4_extent_build.specs.r4_leaf.Units.{cut_units}
+use Rattle.r4_extent_build.proofs.r4_patch.Members.{cases, here, later, none}
+use Rattle.r4_extent_build.specs.r4_path.Steps.{IsNameOf, name_of}
+use Rattle.r4_extent_build.proofs.r4_path.Rising.{lo_is}
+use Rattle.r4_extent_build.specs.r4_reach.Touched.{Body}
 use Rattle.r4_extent_loss.specs.Losing.{IsLossOf, Loss, gone_from, gone_to, leaf_at, parted_pieces, pointed, taken_from, with_leaf}
 use Rattle.r4_extent_loss.proofs.LostPieces.{all_names, hi, high, led, lo, low, ms, parts, pp, ps, rest, xs, ys}
 use Rattle.r4_extent_loss.proofs.Replaced.{cells_of}

@@ -7,25 +7,25 @@ use Rattle.r4_base.specs.Node.{mkfs_id_of}
 use Rattle.r4_base.specs.Tree.{IsNode, Name}
 use Rattle.r4_base.specs.Value.{Value}
 use Rattle.r4_base.specs.declared.key.Key.{Key}
-use Rattle.r4_branch.specs.declared.piece.TwigPart.TheVariants.{Pointer}
-use Rattle.r4_branch.specs.declared.piece.TwigPiece.{TwigPiece}
-use Rattle.r4_cell.specs.Patch.{HaveNames}
-use Rattle.r4_cell.specs.Seen.{CellSeen, node_of}
+use Rattle.r4_extent_build.specs.r4_branch.declared.piece.TwigPart.TheVariants.{Pointer}
+use Rattle.r4_extent_build.specs.r4_branch.declared.piece.TwigPiece.{TwigPiece}
+use Rattle.r4_extent_build.specs.r4_cell.Patch.{HaveNames}
+use Rattle.r4_extent_build.specs.r4_cell.Seen.{CellSeen, node_of}
 use Rattle.r4_content.specs.Bodies.{larger, smaller}
 use Rattle.r4_content.specs.Edited.{Edits}
-use Rattle.r4_edit.specs.CutBlocks.{BeginsAt, next_key, parted_twice, pieces_between}
-use Rattle.r4_edit.specs.Extents.{given_cells}
-use Rattle.r4_graft.specs.Splices.{IsBorder}
-use Rattle.r4_leaf.specs.Units.{is_between}
-use Rattle.r4_node40.specs.Laid.{fresh_node}
-use Rattle.r4_patch.specs.Effect.{Placed}
-use Rattle.r4_path.specs.Sharing.{IsSound}
-use Rattle.r4_path.specs.Steps.{IsNameOf, name_of}
-use Rattle.r4_path.specs.TwigPieces.{ArePiecesOf, twig_pieces}
-use Rattle.r4_reach.specs.Needs.{gets_bytes, pieces_after}
-use Rattle.r4_reach.specs.Touched.{Body, first_byte}
+use Rattle.r4_extent_build.specs.r4_edit.CutBlocks.{BeginsAt, next_key, parted_twice, pieces_between}
+use Rattle.r4_extent_build.specs.r4_edit.Extents.{given_cells}
+use Rattle.r4_extent_build.specs.r4_graft.Splices.{IsBorder}
+use Rattle.r4_extent_build.specs.r4_leaf.Units.{is_between}
+use Rattle.r4_extent_build.specs.r4_node40.Laid.{fresh_node}
+use Rattle.r4_extent_build.specs.r4_patch.Effect.{Placed}
+use Rattle.r4_extent_build.specs.r4_path.Sharing.{IsSound}
+use Rattle.r4_extent_build.specs.r4_path.Steps.{IsNameOf, name_of}
+use Rattle.r4_extent_build.specs.r4_path.TwigPieces.{ArePiecesOf, twig_pieces}
+use Rattle.r4_extent_build.specs.r4_reach.Needs.{gets_bytes, pieces_after}
+use Rattle.r4_extent_build.specs.r4_reach.Touched.{Body, first_byte}
 use Rattle.r4_extent_build.specs.r4_twig_turns.Turning.{TwigTurn}
-use Rattle.r4_extent_demands.specs.Sizes.{IsFirstKey, IsSizedBody}
+use Rattle.r4_extent_build.specs.r4_extent_demands.Sizes.{IsFirstKey, IsSizedBody}
 use Rattle.r4_extent_build.specs.Growing.{end_after, end_before}
 
 -- The body stands in extents and loses blocks; its first key is given. No block of it gets bytes: the last one that

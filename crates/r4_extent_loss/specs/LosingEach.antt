@@ -9,25 +9,25 @@ use Rattle.r4_base.specs.Node.{mkfs_id_of}
 use Rattle.r4_base.specs.Tree.{InSpan, Name, Root, Span, Store}
 use Rattle.r4_base.specs.Value.{Value}
 use Rattle.r4_base.specs.declared.key.Key.{Key}
-use Rattle.r4_cell.specs.Patch.{HaveNames}
-use Rattle.r4_cell.specs.Seen.{CellSeen, node_of}
-use Rattle.r4_cell.specs.declared.change.Fresh.{Fresh}
+use Rattle.r4_extent_build.specs.r4_cell.Patch.{HaveNames}
+use Rattle.r4_extent_build.specs.r4_cell.Seen.{CellSeen, node_of}
+use Rattle.r4_extent_build.specs.r4_cell.declared.change.Fresh.{Fresh}
 use Rattle.r4_content.specs.Edited.{Edits}
-use Rattle.r4_edit.specs.CutBlocks.{BeginsAt, pieces_between}
-use Rattle.r4_edit.specs.Extents.{given_cells}
-use Rattle.r4_graft.specs.Splices.{IsBorder}
-use Rattle.r4_leaf.specs.declared.remaking.KeyRange.{KeyRange}
-use Rattle.r4_measure.specs.Budget.{AreUnplaced, Budget}
-use Rattle.r4_measure.specs.Grafting.{IsQuietBelow}
-use Rattle.r4_measure.specs.Measured.{IsMeasured}
-use Rattle.r4_path.specs.Grafts.{extra_twigs}
-use Rattle.r4_path.specs.Steps.{IsNameOf}
-use Rattle.r4_path.specs.TwigPieces.{ArePiecesOf, twig_pieces}
-use Rattle.r4_reach.specs.Needs.{pieces_after}
-use Rattle.r4_reach.specs.Touched.{Body}
+use Rattle.r4_extent_build.specs.r4_edit.CutBlocks.{BeginsAt, pieces_between}
+use Rattle.r4_extent_build.specs.r4_edit.Extents.{given_cells}
+use Rattle.r4_extent_build.specs.r4_graft.Splices.{IsBorder}
+use Rattle.r4_extent_build.specs.r4_leaf.declared.remaking.KeyRange.{KeyRange}
+use Rattle.r4_extent_build.specs.r4_measure.Budget.{AreUnplaced, Budget}
+use Rattle.r4_extent_build.specs.r4_measure.Grafting.{IsQuietBelow}
+use Rattle.r4_extent_build.specs.r4_measure.Measured.{IsMeasured}
+use Rattle.r4_extent_build.specs.r4_path.Grafts.{extra_twigs}
+use Rattle.r4_extent_build.specs.r4_path.Steps.{IsNameOf}
+use Rattle.r4_extent_build.specs.r4_path.TwigPieces.{ArePiecesOf, twig_pieces}
+use Rattle.r4_extent_build.specs.r4_reach.Needs.{pieces_after}
+use Rattle.r4_extent_build.specs.r4_reach.Touched.{Body}
 use Rattle.r4_extent_build.specs.r4_twig_turns.Turning.{CanRegraftAll, TwigTurn, numbers_for}
-use Rattle.r4_work.specs.Working.{standing}
-use Rattle.r4_work.specs.declared.working.WorkingSet.{WorkingSet}
+use Rattle.r4_extent_build.specs.r4_work.Working.{standing}
+use Rattle.r4_extent_build.specs.r4_work.declared.working.WorkingSet.{WorkingSet}
 use Rattle.r4_extent_loss.specs.Losing.{IsLeft, IsLosing, IsLossOf, Loss, gone_from, gone_to}
 use Rattle.r4_extent_loss.specs.Losing.{in_gone, losing_turn, parted_pieces}
 use Rattle.r4_extent_loss.specs.declared.losing.Losing.{Losing}

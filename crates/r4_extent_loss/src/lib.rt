@@ -10,3 +10,4 @@ pub use laws::{
     only_losing_twigs_change_their_pieces, turned_twigs_take_bytes,
 };
 pub use losing::{Losing, gone_of, regraft_without};
+pub use r4_extent_build::regraft_each;

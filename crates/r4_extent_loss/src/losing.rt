@@ -9,18 +9,18 @@ ghost use Rattle.r4_base.specs.Key.{rank};
 ghost use Rattle.r4_base.specs.Tree.{Root as TreeRoot, Store};
 ghost use Rattle.r4_base.specs.Value.{Value};
 ghost use Rattle.r4_base.specs.declared.key.Key.{Key as KeySeen};
-ghost use Rattle.r4_cell.specs.Seen.{CellSeen, node_of};
-ghost use Rattle.r4_cell.specs.declared.change.Fresh.{Fresh as FreshSeen};
+ghost use Rattle.r4_extent_build.specs.r4_cell.Seen.{CellSeen, node_of};
+ghost use Rattle.r4_extent_build.specs.r4_cell.declared.change.Fresh.{Fresh as FreshSeen};
 ghost use Rattle.r4_content.specs.Bodies.{larger, smaller};
 ghost use Rattle.r4_content.specs.Held.{edits_of};
-ghost use Rattle.r4_edit.specs.CutBlocks.{next_key};
-ghost use Rattle.r4_edit.specs.Extents.{given_cells};
-ghost use Rattle.r4_node40.specs.Laid.{fresh_node};
-ghost use Rattle.r4_path.specs.Sharing.{IsSound};
-ghost use Rattle.r4_reach.specs.Needs.{pieces_after};
+ghost use Rattle.r4_extent_build.specs.r4_edit.CutBlocks.{next_key};
+ghost use Rattle.r4_extent_build.specs.r4_edit.Extents.{given_cells};
+ghost use Rattle.r4_extent_build.specs.r4_node40.Laid.{fresh_node};
+ghost use Rattle.r4_extent_build.specs.r4_path.Sharing.{IsSound};
+ghost use Rattle.r4_extent_build.specs.r4_reach.Needs.{pieces_after};
 ghost use Rattle.r4_extent_build.specs.r4_twig_turns.Turning.{IsTurned, behind, own_of};
-ghost use Rattle.r4_twig_work.specs.Regrafting.{DoesBelow, IsRegraftable};
-ghost use Rattle.r4_extent_demands.specs.Sizes.{IsSizedBody};
+ghost use Rattle.r4_extent_build.specs.r4_twig_work.Regrafting.{DoesBelow, IsRegraftable};
+ghost use Rattle.r4_extent_build.specs.r4_extent_demands.Sizes.{IsSizedBody};
 ghost use Rattle.r4_extent_build.specs.Looping.{AreTurned, behind_all};
 ghost use Rattle.r4_extent_loss.specs.Losing.{IsLosing, IsLossOf, gone_from, gone_to, leaf_at};
 ghost use Rattle.r4_extent_loss.specs.Losing.{losing_turn, numbers_taken, pointed, taken_block};
@@ -28,15 +28,11 @@ ghost use Rattle.r4_extent_loss.specs.Losing.{taken_from, taken_id, taken_pieces
 ghost use Rattle.r4_extent_loss.specs.LosingEach.{CanLoseAll, leaf_in, loss_of, losing_turns};
 
 use r4_base::{Block, Key, LEAF, Memory, NodeId, get32};
-use r4_branch::{TwigPart, TwigPiece};
-use r4_cell::{Cell, Fresh, new_cell};
 use r4_content::Edits;
-use r4_extent_demands::{SizedBody, pieces_after};
-use r4_leaf::KeyRange;
-use r4_node40::NodeMut;
-use r4_path::add;
-use r4_twig_work::{Below, regraft};
-use r4_work::WorkingSet;
+use r4_extent_build::{
+    Below, Cell, Fresh, KeyRange, NodeMut, SizedBody, TwigPart, TwigPiece, WorkingSet, add,
+    new_cell, pieces_after, regraft,
+};
 use std::alloc::Global;
 use std::sync::Arc;
 

@@ -12,14 +12,14 @@ use Rattle.r4_content.specs.Listed.{list_edited}
 use Rattle.r4_content.proofs.SeenLaws.{content_of}
 use Rattle.r4_content.proofs.EditLaws.{at_edited, in_changed, one_key}
 use Rattle.r4_content.proofs.EditLaws as laws
-use Rattle.r4_build.specs.r4_leaf_edits.Suiting.{is_byte}
-use Rattle.r4_extent_blocks.specs.Setting.{byte_of, byte_set, last_put}
-use Rattle.r4_build.specs.Building.{set_by}
-use Rattle.r4_build.proofs.LeafKeys.{listed}
+use Rattle.r4_applied.specs.r4_build.r4_leaf_edits.Suiting.{is_byte}
+use Rattle.r4_allowed.specs.r4_extent_change.r4_extent_blocks.Setting.{byte_of, byte_set, last_put}
+use Rattle.r4_applied.specs.r4_build.Building.{set_by}
+use Rattle.r4_applied.proofs.r4_build.LeafKeys.{listed}
 use Rattle.r4_applied.specs.r4_patch.Effect.{in_leaf}
 use Rattle.r4_applied.specs.r4_reach.Reach.{is_body}
-use Rattle.r4_build.proofs.r4_patch.Members.{here, later}
-use Rattle.r4_extent_change.specs.Beside.{without_bytes}
+use Rattle.r4_applied.proofs.r4_build.r4_patch.Members.{here, later}
+use Rattle.r4_allowed.specs.r4_extent_change.Beside.{without_bytes}
 use Rattle.r4_extent_moves.proofs.BytesSet.{flipped}
 
 both_none : (o p : Option ℕ) → option_or o p ≡ None → (o ≡ None) × (p ≡ None)

@@ -1,5 +1,5 @@
 -- The keys that a body may have.
-use Rattle.std.proofs.Common.{◌≡◌, inl, inr, ℕ, ◌+◌, ◌-◌, ◌*◌, ◌/◌, ◌<◌, ◌^◌, true, false, refl, ap, ◌∙◌, arith}
+use Rattle.std.proofs.Common.{◌≡◌, inl, inr, ℕ, ◌+◌, ◌-◌, ◌*◌, ◌/◌, ◌<◌, ◌≤◌, ◌^◌, true, false, refl, ap, ◌∙◌, arith}
 use Rattle.std.proofs.lemmas.Bool.{cases_Bool, le-leb, lt-ltb}
 use Rattle.r4_base.specs.Key.{key_of_rank, minor_of, offset_of}
 use Rattle.r4_base.specs.Volume.{IsObject, blocks_for, byte_rank, object_of, stat_rank}
@@ -10,6 +10,9 @@ use Rattle.r4_content.proofs.Ranks.{between_is, byte_after, stat_not_byte}
 use Rattle.r4_applied.specs.r4_reach.Touched.{Body, blocks_end, first_byte}
 use Rattle.r4_applied.proofs.r4_sets.Carried.{byte_owner}
 use Rattle.r4_extent_moves.specs.Moving.{in_body}
+
+pub in_on : (b : Body) (k : ℕ) → first_byte b ≤ k → k < first_byte b + 2 ^ 64 → in_body b k ≡ true
+in_on b k low high = rw (le-leb (first_byte b) k low, lt-ltb k (first_byte b + 2 ^ 64) high) refl
 
 module _ (b : Body) (is : IsObject b.file) where
   pub at_offset : (x : ℕ) → byte_rank b.file x ≡ first_byte b + x

@@ -9,7 +9,7 @@ use Rattle.r4_content.specs.Edited.{Edits, Pairs, changed, edited, is_in, put_ke
 use Rattle.r4_content.proofs.EditLaws.{at_edited, in_changed, one_key}
 use Rattle.r4_content.proofs.EditLaws as laws
 use Rattle.r4_content.proofs.EditParts.{off_is}
-use Rattle.r4_extent_blocks.specs.Setting.{byte_of, byte_set, last_put}
+use Rattle.r4_allowed.specs.r4_extent_change.r4_extent_blocks.Setting.{byte_of, byte_set, last_put}
 
 -- ---- what is put
 

@@ -1,38 +1,35 @@
--- What stands at the keys of a body in extents that grows, before and after.
-use Rattle.std.proofs.Common.{◌≡◌, ◌≢◌, ◌↔◌, inl, inr, ℕ, ◌+◌, ◌*◌, ◌/◌, ◌<◌, ◌≤◌, ◌==◌, ◌^◌, Bool, true, false, List, [], ◌∷◌, Option, Some, None, refl, sym, ap, subst, ◌∙◌, arith}
+-- The holes and the blocks that come of a body in extents that grows.
+use Rattle.std.proofs.Common.{◌≡◌, inl, inr, ℕ, ◌+◌, ◌*◌, ◌/◌, ◌<◌, ◌≤◌, ◌==◌, ◌^◌, Bool, true, false, List, [], ◌∷◌, Some, refl, sym, ap, subst, ◌∙◌, arith}
 use Rattle.std.specs.Prelude.{Contains, ◌||◌}
-use Rattle.std.proofs.Math.Decide.{ℕ_discrete}
-use Rattle.std.proofs.lemmas.Bool.{and_parts, eqb-true, le-leb, lt-ltb, ne_eqb, or_left, or_right}
-use Rattle.std.proofs.lemmas.Option.{same_Some}
+use Rattle.std.proofs.lemmas.Bool.{and_parts, eqb-true, or_left, or_right}
 use Rattle.r4_base.specs.Key.{body_key, key_of_rank, offset_of, rank}
-use Rattle.r4_base.specs.Tree.{Node, Store}
-use Rattle.r4_base.specs.Value.{Byte, Content, Entry, Stat, Value, at_key}
-use Rattle.r4_base.specs.Volume.{InExtent, InTail, KeyFits, blocks_for}
+use Rattle.r4_base.specs.Tree.{Store}
+use Rattle.r4_base.specs.Value.{Byte, Content, Value, at_key}
+use Rattle.r4_base.specs.Volume.{InExtent, blocks_for}
 use Rattle.r4_base.proofs.Visible.{byte_back}
 use Rattle.r4_content.specs.Edited.{Edits, is_between}
 use Rattle.r4_content.proofs.Ranks.{between_is}
-use Rattle.r4_build.proofs.r4_leaf_edits.KeyRanks.{key_again}
-use Rattle.r4_build.specs.r4_branch.Pieces.{Follow, IsSound, IsSoundPart, part_end, piece_end}
-use Rattle.r4_build.specs.r4_branch.declared.piece.TwigPart.{TwigPart}
-use Rattle.r4_build.specs.r4_branch.declared.piece.TwigPart.TheVariants.{Blocks, Pointer}
-use Rattle.r4_build.specs.r4_branch.declared.piece.TwigPiece.{TwigPiece}
-use Rattle.r4_build.proofs.r4_patch.Members.{cases, here, later, none}
-use Rattle.r4_build.proofs.r4_path.Rising.{level_is}
-use Rattle.r4_build.proofs.r4_path.r4_graft.Parts.{sound_at}
-use Rattle.r4_applied.specs.r4_patch.Effect.{Placed, UnitIn}
+use Rattle.r4_applied.proofs.r4_build.r4_leaf_edits.KeyRanks.{key_again}
+use Rattle.r4_applied.specs.r4_build.r4_branch.Pieces.{Follow, IsSound, IsSoundPart, part_end, piece_end}
+use Rattle.r4_applied.specs.r4_build.r4_branch.declared.piece.TwigPart.{TwigPart}
+use Rattle.r4_applied.specs.r4_build.r4_branch.declared.piece.TwigPart.TheVariants.{Blocks, Pointer}
+use Rattle.r4_applied.specs.r4_build.r4_branch.declared.piece.TwigPiece.{TwigPiece}
+use Rattle.r4_applied.proofs.r4_build.r4_patch.Members.{cases, here, later, none}
+use Rattle.r4_applied.proofs.r4_build.r4_path.Rising.{level_is}
+use Rattle.r4_applied.proofs.r4_build.r4_path.r4_graft.Parts.{sound_at}
 use Rattle.r4_applied.specs.r4_path.TwigPieces.{twig_pieces}
 use Rattle.r4_applied.specs.r4_reach.Needs.{is_hole_part}
 use Rattle.r4_applied.specs.r4_reach.Touched.{Body, first_byte}
 use Rattle.r4_applied.specs.r4_sets_told.r4_cell.Seen.{CellSeen, node_of}
-use Rattle.r4_extent_build.specs.Growing.{IsClearFor, end_after, end_before}
-use Rattle.r4_extent_build.specs.Looping.{keys_of_each}
-use Rattle.r4_extent_build.specs.Setting.{in_coming, in_hole_of, is_hole_of}
-use Rattle.r4_extent_build.proofs.TurnEffect.{hole_in, old_units}
-use Rattle.r4_extent_change.specs.Beside.{is_turning, turning_among}
-use Rattle.r4_extent_change.proofs.Chosen.{picked}
+use Rattle.r4_allowed.specs.r4_extent_change.r4_extent_build.Growing.{IsClearFor, end_after, end_before}
+use Rattle.r4_allowed.specs.r4_extent_change.r4_extent_build.Looping.{keys_of_each}
+use Rattle.r4_allowed.specs.r4_extent_change.r4_extent_build.Setting.{in_coming, in_hole_of, is_hole_of}
+use Rattle.r4_allowed.proofs.r4_extent_change.r4_extent_build.TurnEffect.{hole_in, old_units}
+use Rattle.r4_allowed.specs.r4_extent_change.Beside.{is_turning, turning_among}
+use Rattle.r4_allowed.proofs.r4_extent_change.Chosen.{picked}
 use Rattle.r4_extent_moves.specs.Grown.{GrowsBody}
 use Rattle.r4_extent_moves.specs.Moving.{ChangesBody, in_body}
-use Rattle.r4_extent_moves.proofs.BodyKeys.{at_offset, minor_at, offset_at}
+use Rattle.r4_extent_moves.proofs.BodyKeys.{at_offset, in_on, offset_at}
 
 -- ---- members
 
@@ -63,9 +60,6 @@ module _ (b : Body) (e : Edits) (u : Store Value) (raw n : Content) (cells : Lis
     (h : ChangesBody b e u raw n) (g : GrowsBody b e u raw cells keys) where
   -- ---- keys of the body
 
-  pub in_on : (k : ℕ) → first_byte b ≤ k → k < first_byte b + 2 ^ 64 → in_body b k ≡ true
-  in_on k low high = rw (le-leb (first_byte b) k low, lt-ltb k (first_byte b + 2 ^ 64) high) refl
-
   -- a hole that begins at a key of the body lies in it
   hole_ends : (p : TwigPiece) → IsSound p → is_hole_of b p ≡ true → (first_byte b ≤ rank p.key) × (piece_end p ≤ first_byte b + 2 ^ 64)
   hole_ends p sound on = by p.part refl
@@ -94,7 +88,7 @@ module _ (b : Body) (e : Edits) (u : Store Value) (raw n : Content) (cells : Lis
       let (low, high) = coming_at c k on in
       let small = g.growing.sized.now in
       let blocks : blocks_for b.now ≡ (b.now + 4095) / 4096 = refl in
-      in_on k (omega (arith, low)) (omega (arith, high, small, blocks))
+      in_on b k (omega (arith, low)) (omega (arith, high, small, blocks))
 
   -- ---- what stood
 
@@ -109,7 +103,7 @@ module _ (b : Body) (e : Edits) (u : Store Value) (raw n : Content) (cells : Lis
     body =
         let (p, at, hole, low, high) = hole_in b (twig_pieces c) k on in
         let (from, to) = hole_ends p (sound_of (rank c.lo) (rank c.hi) (twig_pieces c) p clear.pieces.pieces.follow at) hole in
-        in_on k (omega (arith, from, low)) (omega (arith, to, high));
+        in_on b k (omega (arith, from, low)) (omega (arith, to, high));
     value = (h.units k (Byte 0)).1 (c.id, node_of c, stands, unit);
     extent = (c.id, node_of c, Byte 0, stands, (λ one. omega (arith, one, level)), unit);
   }
@@ -128,61 +122,3 @@ module _ (b : Body) (e : Edits) (u : Store Value) (raw n : Content) (cells : Lis
 
       unit : Contains (node_of c).units (k, Byte 0)
       unit = subst (λ (us : List (ℕ × Value)). Contains us (k, Byte 0)) clear.pieces.units ((old_units b (twig_pieces c) k (Byte 0)).1 (inl (on, refl)))
-
-  -- what stands in an extent of the body stood below the end of its blocks
-  pub before_end_of : (k : ℕ) → in_body b k ≡ true → InExtent u k → k < end_before b
-  before_end_of k on there =
-      let (x, lt, at) = offset_at b h.object k on in
-      let low = (g.stood.offsets x lt).0 (subst (InExtent u) at there) in
-      let step = at_offset b h.object x in
-      omega (arith, low, at, step)
-
-  -- a unit there stood in an extent
-  pub in_extent_of : (k : ℕ) (w : Placed Value) → in_body b k ≡ true → UnitIn u k w → (w.1 ≡ false) × (k < end_before b)
-  in_extent_of k (v, t) on (i, c, is, has, kind) = elim (ℕ_discrete c.level 1) [
-    | yes one ↦
-        let (x, lt, at) = offset_at b h.object k on in
-        absurd (g.stood.no_tails x lt (subst (InTail u) at (i, c, v, is, one, has)))
-    | no other ↦ (sym kind ∙ ne_eqb c.level 1 other, before_end_of k on (i, c, v, is, other, has))
-  ]
-
-  pub nothing_at : (k : ℕ) → in_body b k ≡ true → end_before b ≤ k → at_key raw k ≡ None
-  nothing_at k on high = by (at_key raw k) refl
-    where
-      by : (o : Option Value) → at_key raw k ≡ o → at_key raw k ≡ None
-      by None is = is
-      by (Some v) is =
-          let (i, c, at, has) = (h.units k v).0 is in
-          let (_, low) = in_extent_of k (v, c.level == 1) on (i, c, at, has, refl) in
-          absurd (omega (arith, low, high))
-
-  -- below the end of its blocks a byte stood, and no other unit
-  pub record HasOne (k : ℕ) : Type 0 where
-    pub byte : ℕ
-    pub value : at_key raw k ≡ Some (Byte byte)
-    pub unit : (w : Placed Value) → UnitIn u k w ↔ (w ≡ (Byte byte, false))
-
-  pub one_at : (k : ℕ) → in_body b k ≡ true → k < end_before b → HasOne k
-  one_at k on low =
-      let (x, lt, at) = offset_at b h.object k on in
-      let step = at_offset b h.object x in
-      let (i, c, v, is, level, has) = subst (InExtent u) (sym at) ((g.stood.offsets x lt).1 (omega (arith, low, at, step))) in
-      by i c v is level has ((h.units k v).1 (i, c, is, has)) (h.files.keys k v ((h.units k v).1 (i, c, is, has)))
-    where
-      by : (i : ℕ) (c : Node Value) (v : Value) → u i ≡ Some c → c.level ≢ 1 → Contains c.units (k, v) → at_key raw k ≡ Some v → KeyFits raw (key_of_rank k) v → HasOne k
-      by i c (Stat a) is level has there f = let one = f.0 in let four = minor_at b h.object k on in absurd (omega (arith, one, four))
-      by i c (Entry s t) is level has there f = let four = minor_at b h.object k on in absurd (omega (arith, f, four))
-      by i c (Byte y) is level has there f = record {
-        byte = y;
-        value = there;
-        unit = λ w. (
-          λ x. both w (unit_value w x) (in_extent_of k w on x).0,
-          λ same. subst (UnitIn u k) (sym same) (i, c, is, has, ne_eqb c.level 1 level),
-        );
-      }
-        where
-          unit_value : (w : Placed Value) → UnitIn u k w → w.0 ≡ Byte y
-          unit_value w (j, d, at, m, _) = same_Some w.0 (Byte y) (sym ((h.units k w.0).1 (j, d, at, m)) ∙ there)
-
-          both : (w : Placed Value) → w.0 ≡ Byte y → w.1 ≡ false → w ≡ (Byte y, false)
-          both w p q = λ i. (p i, q i)

@@ -1,74 +1,42 @@
 -- The change of a body in extents that grows leaves at each of its keys what is to stand there.
-use Rattle.std.proofs.Common.{◌≡◌, ◌↔◌, inl, inr, ℕ, ◌+◌, ◌<◌, ◌≤◌, ◌^◌, Bool, true, false, cond, List, [], ◌∷◌, Option, Some, None, refl, sym, ap, ◌∙◌, arith}
+use Rattle.std.proofs.Common.{◌≡◌, ◌↔◌, inl, inr, ℕ, ◌<◌, ◌≤◌, Bool, true, false, cond, List, Option, Some, None, refl, sym, ap, ◌∙◌, arith}
 use Rattle.std.specs.Prelude.{Contains, nat_lt, unwrap_or, ◌&&◌, ◌||◌}
 use Rattle.std.specs.Option.{is_some}
+use Rattle.std.proofs.Math.Bool.{or-false}
 use Rattle.std.proofs.Math.Decide.{dec_le}
 use Rattle.std.proofs.Math.Nat.{lt_of_not-le}
-use Rattle.std.proofs.lemmas.Bool.{le-leb, lt-ltb, or_left, or_right}
+use Rattle.std.proofs.lemmas.Bool.{ltb-false, le-leb, or_left, or_right}
 use Rattle.std.proofs.lemmas.Option.{none-some, same_Some}
 use Rattle.r4_base.specs.Tree.{Store}
 use Rattle.r4_base.specs.Value.{Byte, Content, Value, at_key}
-use Rattle.r4_content.specs.Edited.{Edits, Intervals, changed, is_between, is_in, put_keys}
-use Rattle.r4_content.proofs.EditLaws.{in_changed}
-use Rattle.r4_content.proofs.Ranks.{between_is}
-use Rattle.r4_build.specs.Building.{set_by}
-use Rattle.r4_build.proofs.r4_patch.Members.{cases, none}
+use Rattle.r4_content.specs.Edited.{Edits, changed, is_in}
+use Rattle.r4_applied.specs.r4_build.Building.{set_by}
 use Rattle.r4_applied.specs.r4_patch.Effect.{Placed, UnitIn}
-use Rattle.r4_applied.specs.r4_reach.Reach.{is_body}
-use Rattle.r4_applied.specs.r4_reach.Touched.{Body, first_byte}
+use Rattle.r4_applied.specs.r4_reach.Touched.{Body}
 use Rattle.r4_applied.specs.r4_sets_told.r4_cell.Seen.{CellSeen}
 use Rattle.r4_applied.proofs.r4_sets.Carried.{not_both_ways}
-use Rattle.r4_extent_blocks.specs.Setting.{byte_set}
-use Rattle.r4_extent_build.specs.Growing.{end_after, end_before}
-use Rattle.r4_extent_build.specs.Looping.{keys_of_each}
-use Rattle.r4_extent_build.specs.Setting.{bytes_after, in_coming}
-use Rattle.r4_extent_build.proofs.UnitsFilled.{or_cases}
-use Rattle.r4_extent_renew.specs.Overwriting.{blocks_among, in_blocks, is_set_in}
-use Rattle.r4_extent_change.specs.Beside.{turning_among, without_bytes}
-use Rattle.r4_extent_change.specs.Changing.{grown_keys, grown_values}
+use Rattle.r4_allowed.specs.r4_extent_change.r4_extent_blocks.Setting.{byte_set}
+use Rattle.r4_allowed.specs.r4_extent_change.r4_extent_build.Growing.{end_after, end_before}
+use Rattle.r4_allowed.specs.r4_extent_change.r4_extent_build.Looping.{keys_of_each}
+use Rattle.r4_allowed.specs.r4_extent_change.r4_extent_build.Setting.{bytes_after, in_coming}
+use Rattle.r4_allowed.proofs.r4_extent_change.r4_extent_build.UnitsFilled.{or_cases}
+use Rattle.r4_allowed.specs.r4_extent_change.r4_extent_renew.Overwriting.{blocks_among, in_blocks, is_set_in}
+use Rattle.r4_allowed.specs.r4_extent_change.Beside.{turning_among, without_bytes}
+use Rattle.r4_allowed.specs.r4_extent_change.Changing.{grown_keys, grown_values}
 use Rattle.r4_extent_moves.specs.Grown.{GetsThere, GrowsBody}
 use Rattle.r4_extent_moves.specs.Moving.{ChangesBody, MovesBody, body_then, byte_there, in_body}
-use Rattle.r4_extent_moves.proofs.BesideBytes.{same_keys, same_set}
-use Rattle.r4_extent_moves.proofs.GrownBody.{all_of, before_end_of, coming_at, coming_in_body, hole_at, in_extent_of, in_on}
+use Rattle.r4_extent_moves.proofs.GrownBody.{all_of, coming_at, coming_in_body, hole_at, one_of}
+use Rattle.r4_extent_moves.proofs.OutsideBody.{same_changes, same_values, unset_outside}
+use Rattle.r4_extent_moves.proofs.ThenThere.{beside_off, nothing_then, some_then}
+use Rattle.r4_extent_moves.proofs.StoodBody.{before_end_of, in_extent_of, nothing_at, one_at}
 use Rattle.r4_extent_moves.proofs.SuitedBytes.{lies_in}
-use Rattle.r4_extent_moves.proofs.GrownBody.{nothing_at, one_at, one_of}
-
--- a key in one of some intervals
-in_one : (rs : Intervals) (r : ℕ × ℕ) (k : ℕ) → Contains rs r → is_between r.0 r.1 k ≡ true → is_in rs k ≡ true
-in_one [] r k m on = absurd (none r m)
-in_one (q ∷ rs) r k m on = elim (cases q r rs m) [
-  | inl same ↦ or_left (is_between q.0 q.1 k) (is_in rs k) (ap (λ (x : ℕ × ℕ). is_between x.0 x.1 k) (sym same) ∙ on)
-  | inr more ↦ or_right (is_between q.0 q.1 k) (is_in rs k) (in_one rs r k more on)
-]
 
 module _ (b : Body) (e : Edits) (u : Store Value) (raw n : Content) (cells : List CellSeen) (keys : CellSeen → ℕ → Bool)
     (h : ChangesBody b e u raw n) (g : GrowsBody b e u raw cells keys) where
   -- ---- outside of the body
 
   unset_at : (k : ℕ) → in_body b k ≡ false → byte_set e k ≡ None
-  unset_at k off = by (byte_set e k) refl
-    where
-      by : (o : Option ℕ) → byte_set e k ≡ o → byte_set e k ≡ None
-      by None is = is
-      by (Some x) is = absurd (not_both_ways (lies_in b e u raw n h g.end g.suits k x is).0 off)
-
-  cut_changes : (r : ℕ × ℕ) → Contains e.cuts r → r.0 < r.1 → is_in (changed e) r.0 ≡ true
-  cut_changes r m some =
-      let on : is_between r.0 r.1 r.0 ≡ true = rw (le-leb r.0 r.0 (omega arith), lt-ltb r.0 r.1 some) refl in
-      in_changed e r.0
-      ∙ or_right (is_in (put_keys e.puts) r.0) (is_in e.zeros r.0 || is_in e.cuts r.0)
-      (or_right (is_in e.zeros r.0) (is_in e.cuts r.0) (in_one e.cuts r r.0 m on))
-
-  apart_cuts : (k : ℕ) → in_body b k ≡ false → (r : ℕ × ℕ) → Contains e.cuts r → is_body r.0 ≡ true → is_between r.0 r.1 k ≡ false
-  apart_cuts k off r m at_body = by (is_between r.0 r.1 k) refl
-    where
-      by : (t : Bool) → is_between r.0 r.1 k ≡ t → is_between r.0 r.1 k ≡ false
-      by false is = is
-      by true is =
-          let (low, high) = between_is r.0 r.1 k is in
-          let (from, _) = between_is (first_byte b) (first_byte b + 2 ^ 64) r.0 (h.one r.0 (cut_changes r m (omega (arith, low, high))) at_body) in
-          let to = g.cuts r m at_body in
-          absurd (not_both_ways (in_on b e u raw n cells keys h g k (omega (arith, from, low)) (omega (arith, to, high))) off)
+  unset_at k off = unset_outside b e u raw n h g.end g.suits k off
 
   twigs_in_body : (k : ℕ) → keys_of_each keys (turning_among b e cells) k ≡ true → in_body b k ≡ true
   twigs_in_body k on =
@@ -95,30 +63,19 @@ module _ (b : Body) (e : Edits) (u : Store Value) (raw n : Content) (cells : Lis
   pub outside : (k : ℕ) → in_body b k ≡ false → grown_keys b e cells keys k ≡ is_in (changed e) k
   outside k off =
       (λ i. is_in (changed (without_bytes e)) k || (twigs_off k off i || set_off k (unset_at k off) i))
-      ∙ (or_nothing (is_in (changed (without_bytes e)) k) ∙ same_keys e k (unset_at k off) (apart_cuts k off))
-    where
-      or_nothing : (t : Bool) → (t || false) ≡ t
-      or_nothing true = refl
-      or_nothing false = refl
+      ∙ (or-false (is_in (changed (without_bytes e)) k) ∙ same_changes b e u raw n h g.end g.suits g.cuts k off)
 
   pub own_values : (k : ℕ) → in_body b k ≡ false → grown_keys b e cells keys k ≡ true → grown_values e k ≡ set_by e k
   own_values k off on =
       ap (λ (t : Bool). cond t (set_by (without_bytes e) k) (bytes_after e k))
-      (same_keys e k (unset_at k off) (apart_cuts k off) ∙ (sym (outside k off) ∙ on))
-      ∙ same_set e k (unset_at k off) (apart_cuts k off)
+      (same_changes b e u raw n h g.end g.suits g.cuts k off ∙ (sym (outside k off) ∙ on))
+      ∙ same_values b e u raw n h g.end g.suits g.cuts k off
 
   -- ---- in the body
 
-  beside_off : (k : ℕ) → in_body b k ≡ true → is_in (changed (without_bytes e)) k ≡ false
-  beside_off k on = by (is_in (changed (without_bytes e)) k) refl
-    where
-      by : (t : Bool) → is_in (changed (without_bytes e)) k ≡ t → is_in (changed (without_bytes e)) k ≡ false
-      by false is = is
-      by true is = absurd (not_both_ways on (g.beside k is))
-
   keys_are : (k : ℕ) → in_body b k ≡ true
       → grown_keys b e cells keys k ≡ (keys_of_each keys (turning_among b e cells) k || is_set_in e (blocks_among cells) k)
-  keys_are k on = ap (λ (t : Bool). t || (keys_of_each keys (turning_among b e cells) k || is_set_in e (blocks_among cells) k)) (beside_off k on)
+  keys_are k on = ap (λ (t : Bool). t || (keys_of_each keys (turning_among b e cells) k || is_set_in e (blocks_among cells) k)) (beside_off b e g.beside k on)
 
   -- a key that is moved lies in the blocks that are needed, and where no byte is set no other than 0 stood there
   record IsMoved (k : ℕ) : Type 0 where
@@ -131,12 +88,12 @@ module _ (b : Body) (e : Edits) (u : Store Value) (raw n : Content) (cells : Lis
       elim ((g.twigs.keys c m).within k has) [
         | inl hole ↦
             let x = hole_at b e u raw n cells keys h g c m k hole in
-            let low = before_end_of b e u raw n cells keys h g k on x.extent in
+            let low = before_end_of b e u raw n h g.stood k on x.extent in
             let longer = g.growing.longer in
             record { low = omega (arith, low, longer); zero = λ _. ap byte_there x.value }
         | inr come ↦
             let (from, to) = coming_at b e u raw n cells keys h g c k come in
-            record { low = to; zero = λ _. ap byte_there (nothing_at b e u raw n cells keys h g k on from) }
+            record { low = to; zero = λ _. ap byte_there (nothing_at b e u raw n h g.stood k on from) }
       ]
 
   set_moved : (k : ℕ) → is_set_in e (blocks_among cells) k ≡ true → IsMoved k
@@ -152,16 +109,12 @@ module _ (b : Body) (e : Edits) (u : Store Value) (raw n : Content) (cells : Lis
     | inr block ↦ set_moved k block
   ]
 
-  then_is : (k : ℕ) (t : Bool) → nat_lt k (end_after b) ≡ t
-      → body_then b e raw k ≡ cond t (Some (Byte (unwrap_or (byte_set e k) (byte_there (at_key raw k))), false)) None
-  then_is k t is = ap (λ (s : Bool). cond s (Some (Byte (unwrap_or (byte_set e k) (byte_there (at_key raw k))), false)) None) is
-
   pub moved_values : (k : ℕ) → in_body b k ≡ true → grown_keys b e cells keys k ≡ true → grown_values e k ≡ body_then b e raw k
   moved_values k on at =
       let m = is_moved k on at in
-      ap (λ (t : Bool). cond t (set_by (without_bytes e) k) (bytes_after e k)) (beside_off k on)
+      ap (λ (t : Bool). cond t (set_by (without_bytes e) k) (bytes_after e k)) (beside_off b e g.beside k on)
       ∙ (ap (λ (y : ℕ). Some (Byte y, false)) (same_or (byte_set e k) (byte_there (at_key raw k)) m.zero)
-      ∙ sym (then_is k true (lt-ltb k (end_after b) m.low)))
+      ∙ sym (some_then b e raw k m.low))
     where
       same_or : (o : Option ℕ) (y : ℕ) → (o ≡ None → y ≡ 0) → unwrap_or o 0 ≡ unwrap_or o y
       same_or None y zero = sym (zero refl)
@@ -219,16 +172,16 @@ module _ (b : Body) (e : Edits) (u : Store Value) (raw n : Content) (cells : Lis
           let (c, m, come) = g.comes k (rw (le-leb (end_before b) k high, is) refl) in
           absurd (none_comes k c m on off come)
       behind high false is = (
-        λ x. let (_, low) = in_extent_of b e u raw n cells keys h g k w on x in absurd (omega (arith, low, high)),
-        λ x. absurd (none-some w (sym (then_is k false is) ∙ x)),
+        λ x. let (_, low) = in_extent_of b e u raw n h g.stood k w on x in absurd (omega (arith, low, high)),
+        λ x. absurd (none-some w (sym (nothing_then b e raw k (ltb-false k (end_after b) is)) ∙ x)),
       )
 
       below : k < end_before b → UnitIn u k w ↔ (body_then b e raw k ≡ Some w)
       below low =
-          let one = one_at b e u raw n cells keys h g k on low in
+          let one = one_at b e u raw n h g.stood k on low in
           let longer = g.growing.longer in
           let is : body_then b e raw k ≡ Some (Byte one.byte, false) =
-          then_is k true (lt-ltb k (end_after b) (omega (arith, low, longer))) ∙ ap (λ (y : ℕ). Some (Byte y, false)) (kept k one.byte on off one.value) in (
+          some_then b e raw k (omega (arith, low, longer)) ∙ ap (λ (y : ℕ). Some (Byte y, false)) (kept k one.byte on off one.value) in (
             λ x. is ∙ ap Some (sym ((one.unit w).0 x)),
             λ x. (one.unit w).1 (sym (same_Some (Byte one.byte, false) w (sym is ∙ x))),
           )

@@ -13,9 +13,9 @@ use Rattle.r4_content.specs.Edited.{Edits, Intervals, changed, edited, is_in}
 use Rattle.r4_content.specs.Units.{IsOfFile, IsOrPads, MovesUnits}
 use Rattle.r4_content.proofs.EditLaws.{edited_off, edited_on}
 use Rattle.r4_content.proofs.Keeping.{byte_key}
-use Rattle.r4_extent_blocks.specs.Setting.{byte_set}
-use Rattle.r4_build.specs.Building.{set_by}
-use Rattle.r4_build.proofs.Contents.{set_is}
+use Rattle.r4_allowed.specs.r4_extent_change.r4_extent_blocks.Setting.{byte_set}
+use Rattle.r4_applied.specs.r4_build.Building.{set_by}
+use Rattle.r4_applied.proofs.r4_build.Contents.{set_is}
 use Rattle.r4_applied.specs.r4_patch.Effect.{IsSetAt, Placed}
 use Rattle.r4_applied.specs.r4_reach.Touched.{Body, blocks_end, first_byte}
 use Rattle.r4_applied.proofs.SeenThere.{past_size, stat_seen, stands}

@@ -9,13 +9,13 @@ use Rattle.r4_base.specs.Value.{Byte, Content, Entry, Stat, Value, at_key}
 use Rattle.r4_content.specs.Edited.{Edits, Pairs, changed, is_in, put_keys}
 use Rattle.r4_content.proofs.EditLaws.{at_edited, in_append}
 use Rattle.r4_content.proofs.EditLaws as laws
-use Rattle.r4_build.specs.r4_leaf_edits.Suiting.{SuitLeaves, bytes_set, is_byte, zero_pairs}
-use Rattle.r4_build.proofs.r4_leaf_edits.Puts.{in_both}
-use Rattle.r4_build.proofs.r4_leaf_edits.Whole.{bodies_only, zeros_keys}
+use Rattle.r4_applied.specs.r4_build.r4_leaf_edits.Suiting.{SuitLeaves, bytes_set, is_byte, zero_pairs}
+use Rattle.r4_applied.proofs.r4_build.r4_leaf_edits.Puts.{in_both}
+use Rattle.r4_applied.proofs.r4_build.r4_leaf_edits.Whole.{bodies_only, zeros_keys}
 use Rattle.r4_applied.specs.r4_reach.Reach.{is_body}
 use Rattle.r4_applied.specs.r4_reach.Touched.{Body}
-use Rattle.r4_extent_blocks.specs.Setting.{byte_of, byte_set, last_put}
-use Rattle.r4_extent_build.specs.Growing.{end_after}
+use Rattle.r4_allowed.specs.r4_extent_change.r4_extent_blocks.Setting.{byte_of, byte_set, last_put}
+use Rattle.r4_allowed.specs.r4_extent_change.r4_extent_build.Growing.{end_after}
 use Rattle.r4_extent_moves.specs.Moving.{ChangesBody, in_body}
 use Rattle.r4_extent_moves.proofs.BytesSet.{flipped, none_put, unset}
 use Rattle.r4_extent_moves.proofs.Moved.{byte_then}

@@ -11,13 +11,13 @@ use Rattle.r4_applied.specs.r4_path.TwigPieces.{twig_pieces}
 use Rattle.r4_applied.specs.r4_reach.Reach.{is_body}
 use Rattle.r4_applied.specs.r4_reach.Touched.{Body, first_byte}
 use Rattle.r4_applied.specs.r4_sets_told.r4_cell.Seen.{CellSeen, node_of}
-use Rattle.r4_build.specs.r4_leaf_edits.Suiting.{SuitLeaves}
-use Rattle.r4_extent_blocks.specs.Setting.{byte_set}
-use Rattle.r4_extent_build.specs.Growing.{IsGrowing, end_after, end_before}
-use Rattle.r4_extent_build.specs.Looping.{AreKeysOfEach}
-use Rattle.r4_extent_build.specs.Setting.{in_coming, in_hole_of}
-use Rattle.r4_extent_renew.specs.Overwriting.{blocks_among, in_blocks}
-use Rattle.r4_extent_change.specs.Beside.{turning_among, without_bytes}
+use Rattle.r4_applied.specs.r4_build.r4_leaf_edits.Suiting.{SuitLeaves}
+use Rattle.r4_allowed.specs.r4_extent_change.r4_extent_blocks.Setting.{byte_set}
+use Rattle.r4_allowed.specs.r4_extent_change.r4_extent_build.Growing.{IsGrowing, end_after, end_before}
+use Rattle.r4_allowed.specs.r4_extent_change.r4_extent_build.Looping.{AreKeysOfEach}
+use Rattle.r4_allowed.specs.r4_extent_change.r4_extent_build.Setting.{in_coming, in_hole_of}
+use Rattle.r4_allowed.specs.r4_extent_change.r4_extent_renew.Overwriting.{blocks_among, in_blocks}
+use Rattle.r4_allowed.specs.r4_extent_change.Beside.{turning_among, without_bytes}
 use Rattle.r4_extent_moves.specs.Moving.{in_body}
 
 -- The byte gets to its key: the key lies in a data block among the cells, or in a hole or among the

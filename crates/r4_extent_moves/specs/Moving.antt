@@ -9,7 +9,7 @@ use Rattle.r4_base.specs.declared.items.Attr.{Attr}
 use Rattle.r4_content.specs.Edited.{Edits, Intervals, changed, edited, is_between, is_in}
 use Rattle.r4_content.specs.Lawful.{HasBodies}
 use Rattle.r4_content.specs.Meaning.{greatest_size}
-use Rattle.r4_extent_blocks.specs.Setting.{byte_of, byte_set}
+use Rattle.r4_allowed.specs.r4_extent_change.r4_extent_blocks.Setting.{byte_of, byte_set}
 use Rattle.r4_applied.specs.r4_build.Building.{set_by}
 use Rattle.r4_applied.specs.r4_patch.Effect.{Placed, UnitIn}
 use Rattle.r4_applied.specs.r4_reach.Reach.{is_body}

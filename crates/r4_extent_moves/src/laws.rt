@@ -13,8 +13,10 @@ ghost use Rattle.r4_applied.specs.r4_patch.Part.{MeetsPart};
 ghost use Rattle.r4_applied.specs.r4_reach.Touched.{Body};
 ghost use Rattle.r4_applied.specs.r4_sets_told.r4_cell.Patch.{Patch, place};
 ghost use Rattle.r4_applied.specs.r4_sets_told.r4_cell.Seen.{CellSeen};
-ghost use Rattle.r4_extent_change.specs.Changing.{grown_keys, grown_values};
+ghost use Rattle.r4_allowed.specs.r4_extent_change.Changing.{grown_keys, grown_values};
+ghost use Rattle.r4_allowed.specs.r4_extent_change.Losing.{lost_keys, lost_values};
 ghost use Rattle.r4_extent_moves.specs.Grown.{GrowsBody};
+ghost use Rattle.r4_extent_moves.specs.Lost.{LosesBody};
 ghost use Rattle.r4_extent_moves.specs.Moving.{AreKeys, ChangesBody, MovesBody};
 
 /// A change that leaves at each key of a body what is to stand there, and else moves just the keys that edits change,
@@ -43,4 +45,14 @@ pub fn grown_bodies_move()
     ensures { (b : Body) (e : Edits) (u : Store Value) (raw n : Content) (cells : List CellSeen)
         (keys : CellSeen → ℕ → Bool) → ChangesBody b e u raw n → GrowsBody b e u raw cells keys
         → MovesBody b e u raw (grown_keys b e cells keys) (grown_values e) }
+{}
+
+/// The change that `change_of_losing` of r4_extent_change makes of a body in extents that loses
+/// blocks is such a change: nothing is left behind the blocks that the body needs, and these are as
+/// they were, also what is cut of the last one. Else it moves just the keys that the edits change.
+/// So the content becomes what the edits make of it, by the laws above.
+pub fn lost_bodies_move()
+    ensures { (b : Body) (e : Edits) (u : Store Value) (raw n : Content) (cells : List CellSeen)
+        → ChangesBody b e u raw n → LosesBody b e u raw cells
+        → MovesBody b e u raw (lost_keys b e cells) (lost_values e) }
 {}

@@ -4,4 +4,13 @@
 
 mod laws;
 
-pub use laws::{bodies_stand_in_extents, grown_bodies_move, moved_bodies_are_edited};
+pub use laws::{
+    bodies_stand_in_extents, grown_bodies_move, lost_bodies_move, moved_bodies_are_edited,
+};
+pub use r4_allowed::{
+    Allowance, BodyChange, Cell, SizedBody, Turning, TwigPart, TwigPiece, allowances, body_changed,
+    change_of_growing, change_of_losing, change_of_putting, change_of_turning, changes_pieces,
+    is_allowed, leaves_put, may_grow, may_lose, may_put, may_turn, pieces_of_cell, turning_among,
+    twig_turning, twigs_coming, twigs_losing, twigs_putting, unit_end,
+};
+pub use r4_applied::{BuildFault, Built, Change, ObjectCounts, Task, build, plan};

@@ -7,20 +7,20 @@ use Rattle.std.proofs.lemmas.Bool.Decides.{nat_tests}
 use Rattle.r4_base.specs.Key.{least, top}
 use Rattle.r4_base.specs.Tree.{Node}
 use Rattle.r4_base.specs.Value.{Value}
-use Rattle.r4_cell.specs.Seen.{CellSeen, node_of}
+use Rattle.r4_extent_commands.specs.r4_cell.Seen.{CellSeen, node_of}
 use Rattle.r4_content.specs.Edited.{Edits, Intervals, is_in}
 use Rattle.r4_content.specs.Held.{interval_of}
 use Rattle.r4_content.specs.declared.edits.Interval.{Interval}
 use Rattle.r4_extent_reaching.specs.r4_extent_touching.Holding.{AreHeld}
 use Rattle.r4_extent_reaching.proofs.r4_extent_touching.Held.{all_still}
-use Rattle.r4_touching.specs.r4_reach.Touched.{Body, kind_reads}
+use Rattle.r4_extent_reaching.specs.r4_touching.r4_reach.Touched.{Body, kind_reads}
 use Rattle.r4_extent_reaching.specs.r4_reaching.Gathering.{IsOneMet}
-use Rattle.r4_search.specs.Pool.{Goes, PoolState}
-use Rattle.r4_search.specs.declared.pool.FetchFault.{FetchFault}
-use Rattle.r4_search.specs.declared.pool.FetchFault.TheVariants.{Memory}
-use Rattle.r4_search.proofs.Walks.{goes_both}
-use Rattle.r4_touching.specs.Touching.{StopsFor}
-use Rattle.r4_touching.proofs.Touched.{stops_wider}
+use Rattle.r4_extent_asks.specs.r4_search.Pool.{Goes, PoolState}
+use Rattle.r4_extent_asks.specs.r4_search.declared.pool.FetchFault.{FetchFault}
+use Rattle.r4_extent_asks.specs.r4_search.declared.pool.FetchFault.TheVariants.{Memory}
+use Rattle.r4_extent_asks.proofs.r4_search.Walks.{goes_both}
+use Rattle.r4_extent_reaching.specs.r4_touching.Touching.{StopsFor}
+use Rattle.r4_extent_reaching.proofs.r4_touching.Touched.{stops_wider}
 use Rattle.r4_extent_reach.specs.Meeting.{AreBesideMet, HasMet, StopsAtLeft, StopsMeeting, touched_keys}
 
 pub held_one : (p : PoolState) (keys : ℕ → Bool) → keys least ≡ true → least < top → AreHeld p keys → IsOneMet p

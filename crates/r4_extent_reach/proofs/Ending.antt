@@ -1,12 +1,12 @@
 -- The answer on what a command reads and writes.
 use Rattle.std.proofs.Common.{inr}
 use Rattle.std.specs.Prelude.{MatchResult, Result, Ok, Err}
-use Rattle.r4_cell.specs.declared.change.Root.{Root}
+use Rattle.r4_extent_commands.specs.r4_cell.declared.change.Root.{Root}
 use Rattle.r4_content.specs.declared.command.Command.{Command}
 use Rattle.r4_extent_reaching.specs.Answers.{IsReach, StopsReach, StopsWriting}
 use Rattle.r4_extent_reaching.specs.declared.reached.Reach.{Reach}
-use Rattle.r4_search.specs.Pool.{PoolState}
-use Rattle.r4_search.specs.declared.pool.FetchFault.{FetchFault}
+use Rattle.r4_extent_asks.specs.r4_search.Pool.{PoolState}
+use Rattle.r4_extent_asks.specs.r4_search.declared.pool.FetchFault.{FetchFault}
 
 abbrev pub IsAnswered : PoolState → Root → Command → Result Reach FetchFault → Type 0
 IsAnswered p root c r = MatchResult r (IsReach p root c) (StopsReach p root c)

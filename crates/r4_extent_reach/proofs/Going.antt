@@ -1,21 +1,21 @@
 -- A pool that keeps all cells goes on, and what is known of a command stays.
 use Rattle.std.proofs.Common.{inl, inr, ℕ, Bool, refl, ◌∙◌}
 use Rattle.std.specs.Prelude.{Option, None, Some}
-use Rattle.r4_cell.specs.declared.change.Root.{Root}
+use Rattle.r4_extent_commands.specs.r4_cell.declared.change.Root.{Root}
 use Rattle.r4_content.specs.Edited.{Intervals}
 use Rattle.r4_content.specs.Held.{pairs_of}
 use Rattle.r4_content.specs.declared.command.Command.{Command}
 use Rattle.r4_content.specs.declared.edits.Edits.{Edits as HeldEdits}
 use Rattle.r4_content.specs.declared.seen.Seen.{Seen}
-use Rattle.r4_touching.specs.r4_gather.Asking.{StaysOver}
+use Rattle.r4_extent_reaching.specs.r4_touching.r4_gather.Asking.{StaysOver}
 use Rattle.r4_outside.specs.Device.{State}
-use Rattle.r4_touching.specs.r4_reach.Touched.{Body}
+use Rattle.r4_extent_reaching.specs.r4_touching.r4_reach.Touched.{Body}
 use Rattle.r4_extent_reaching.specs.r4_reaching.Answers.{IsAllSeen}
 use Rattle.r4_extent_reaching.proofs.r4_reaching.Standing.{found_on}
-use Rattle.r4_search.specs.Pool.{LeavesDevice, PoolState}
-use Rattle.r4_search.proofs.Walks.{goes_both, goes_same, leaves_both, leaves_same}
-use Rattle.r4_touching.proofs.r4_seeing.Staying.{goes_stay}
-use Rattle.r4_touching.specs.Touching.{Touches}
+use Rattle.r4_extent_asks.specs.r4_search.Pool.{LeavesDevice, PoolState}
+use Rattle.r4_extent_asks.proofs.r4_search.Walks.{goes_both, goes_same, leaves_both, leaves_same}
+use Rattle.r4_extent_reaching.proofs.r4_touching.r4_seeing.Staying.{goes_stay}
+use Rattle.r4_extent_reaching.specs.r4_touching.Touching.{Touches}
 use Rattle.r4_extent_reach.specs.Known.{HasBody, HasEdits}
 use Rattle.r4_extent_reach.specs.Meeting.{CanMeet, GoesOn}
 use Rattle.r4_extent_reach.specs.Standing.{IsTold}

@@ -5,16 +5,16 @@ use Rattle.std.specs.Prelude.{Contains, IsSome, Option, Some, sum_by}
 use Rattle.std.specs.Option.{option_or}
 use Rattle.std.proofs.lemmas.List.Sums.{sum_by-cons}
 use Rattle.r4_base.specs.Tree.{Name}
-use Rattle.r4_cell.specs.Seen.{CellSeen}
-use Rattle.r4_cell.specs.declared.change.Root.{Root}
+use Rattle.r4_extent_commands.specs.r4_cell.Seen.{CellSeen}
+use Rattle.r4_extent_commands.specs.r4_cell.declared.change.Root.{Root}
 use Rattle.r4_extent_reaching.proofs.r4_judging.Below.{name_below}
-use Rattle.r4_touching.proofs.r4_patch.Members.{cases, none}
+use Rattle.r4_extent_reaching.proofs.r4_touching.r4_patch.Members.{cases, none}
 use Rattle.r4_extent_reaching.specs.r4_reaching.Gathering.{AreAllMet}
-use Rattle.r4_search.specs.Keeping.{Shared, WereAnswered, keeping_state, met_in}
-use Rattle.r4_search.specs.Path.{root_name}
-use Rattle.r4_search.specs.Pool.{IsFrom, IsKnown, IsNamed, IsNamedFrom, KnowsNames, PoolState}
-use Rattle.r4_search.proofs.Kept.{knows_met}
-use Rattle.r4_search.proofs.Walks.{named_below}
+use Rattle.r4_extent_asks.specs.r4_search.Keeping.{Shared, WereAnswered, keeping_state, met_in}
+use Rattle.r4_extent_asks.specs.r4_search.Path.{root_name}
+use Rattle.r4_extent_asks.specs.r4_search.Pool.{IsFrom, IsKnown, IsNamed, IsNamedFrom, KnowsNames, PoolState}
+use Rattle.r4_extent_asks.proofs.r4_search.Kept.{knows_met}
+use Rattle.r4_extent_asks.proofs.r4_search.Walks.{named_below}
 use Rattle.r4_extent_reach.specs.Meeting.{CanMeet}
 
 -- no cell of a list stands higher than all of their levels together

@@ -10,24 +10,24 @@ use Rattle.std.specs.Prelude.{◌&&◌, ◌==◌, Contains, Option, Some, None, 
 use Rattle.std.proofs.lemmas.Bool.{and_parts, eqb-true}
 use Rattle.std.proofs.lemmas.Option.{same_Some}
 use Rattle.r4_base.specs.Tree.{Name}
-use Rattle.r4_cell.specs.Seen.{CellSeen, node_of}
-use Rattle.r4_cell.specs.declared.change.Root.{Root}
+use Rattle.r4_extent_commands.specs.r4_cell.Seen.{CellSeen, node_of}
+use Rattle.r4_extent_commands.specs.r4_cell.declared.change.Root.{Root}
 use Rattle.r4_content.specs.Edited.{Edits, Intervals}
 use Rattle.r4_extent_reaching.specs.r4_extent_touching.Holding.{AreLeftMet, StopsLeft}
 use Rattle.r4_extent_reaching.proofs.r4_extent_touching.Left.{left_stops}
 use Rattle.r4_extent_reaching.proofs.r4_judging.Below.{name_below}
 use Rattle.r4_outside.specs.Device.{State}
-use Rattle.r4_touching.proofs.r4_patch.Members.{cases, here, later, none}
+use Rattle.r4_extent_reaching.proofs.r4_touching.r4_patch.Members.{cases, here, later, none}
 use Rattle.r4_extent_asks.proofs.r4_path.Rising.{level_is}
-use Rattle.r4_touching.specs.r4_reach.Needs.{changes_pieces, going_of, is_touched}
-use Rattle.r4_touching.specs.r4_reach.Touched.{Body}
+use Rattle.r4_extent_reaching.specs.r4_touching.r4_reach.Needs.{changes_pieces, going_of, is_touched}
+use Rattle.r4_extent_reaching.specs.r4_touching.r4_reach.Touched.{Body}
 use Rattle.r4_extent_reaching.specs.r4_reaching.Gathering.{AreAllMet}
-use Rattle.r4_search.specs.Pool.{Goes, IsNamed, LeavesDevice, PoolState}
-use Rattle.r4_search.specs.declared.pool.FetchFault.{FetchFault}
-use Rattle.r4_search.proofs.Walks.{goes_same}
-use Rattle.r4_search.specs.Keeping.{Shared}
-use Rattle.r4_search.specs.Path.{root_name}
-use Rattle.r4_touching.specs.r4_seeing.Looking.{AreHung, IsNamedByMet}
+use Rattle.r4_extent_asks.specs.r4_search.Pool.{Goes, IsNamed, LeavesDevice, PoolState}
+use Rattle.r4_extent_asks.specs.r4_search.declared.pool.FetchFault.{FetchFault}
+use Rattle.r4_extent_asks.proofs.r4_search.Walks.{goes_same}
+use Rattle.r4_extent_asks.specs.r4_search.Keeping.{Shared}
+use Rattle.r4_extent_asks.specs.r4_search.Path.{root_name}
+use Rattle.r4_extent_reaching.specs.r4_touching.r4_seeing.Looking.{AreHung, IsNamedByMet}
 use Rattle.r4_extent_reach.specs.Meeting.{AreBesideMet, GoesOn, MeetsBeside, MeetsBesideOne, StopsAtLeft, StopsBesideOf}
 use Rattle.r4_extent_reach.specs.Meeting.{turns_by}
 

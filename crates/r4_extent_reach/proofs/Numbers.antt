@@ -15,20 +15,20 @@ use Rattle.r4_base.specs.Volume.{IsObject, stat_rank}
 use Rattle.r4_base.specs.declared.items.Attr.{Attr}
 use Rattle.r4_base.specs.declared.items.Target.{Target}
 use Rattle.r4_base.specs.declared.key.Key.{Key}
-use Rattle.r4_bodies.specs.Told.{AreOfTree}
+use Rattle.r4_extent_asks.specs.r4_bodies.Told.{AreOfTree}
 use Rattle.r4_content.specs.Edited.{Pairs}
 use Rattle.r4_content.specs.Held.{part_pairs}
 use Rattle.r4_content.specs.Objects.{byte_pairs}
 use Rattle.r4_content.specs.declared.seen.SeenPart.{SeenPart}
-use Rattle.r4_touching.proofs.r4_patch.Members.{here}
+use Rattle.r4_extent_reaching.proofs.r4_touching.r4_patch.Members.{here}
 use Rattle.r4_content.specs.declared.command.Command.{Command}
 use Rattle.r4_extent_asks.proofs.r4_leaf_edits.KeyRanks.{key_again}
 use Rattle.r4_base.specs.declared.items.CellFault.TheVariants.{Range}
-use Rattle.r4_cell.specs.declared.change.Root.{Root}
-use Rattle.r4_search.specs.Pool.{PoolState}
-use Rattle.r4_search.specs.declared.pool.FetchFault.{FetchFault}
-use Rattle.r4_search.specs.declared.pool.FetchFault.TheVariants.{Damaged}
-use Rattle.r4_touching.proofs.r4_seeing.Found.{found_in}
+use Rattle.r4_extent_commands.specs.r4_cell.declared.change.Root.{Root}
+use Rattle.r4_extent_asks.specs.r4_search.Pool.{PoolState}
+use Rattle.r4_extent_asks.specs.r4_search.declared.pool.FetchFault.{FetchFault}
+use Rattle.r4_extent_asks.specs.r4_search.declared.pool.FetchFault.TheVariants.{Damaged}
+use Rattle.r4_extent_reaching.proofs.r4_touching.r4_seeing.Found.{found_in}
 use Rattle.r4_extent_reaching.specs.r4_spared.Spared.{AreObjectsSeen}
 use Rattle.r4_extent_reaching.specs.r4_reaching.Answers.{HaveObjectNumbers, IsSeenIn, SeesLowObject, StopsAtObject, number_in}
 

@@ -4,8 +4,8 @@ use Rattle.std.specs.Prelude.{◌||◌, Option, Some, None}
 use Rattle.std.specs.Option.{option_map}
 use Rattle.r4_base.specs.Key.{least, top}
 use Rattle.r4_base.specs.declared.items.CellFault.TheVariants.{Range}
-use Rattle.r4_cell.specs.Seen.{CellSeen}
-use Rattle.r4_cell.specs.declared.change.Root.{Root}
+use Rattle.r4_extent_commands.specs.r4_cell.Seen.{CellSeen}
+use Rattle.r4_extent_commands.specs.r4_cell.declared.change.Root.{Root}
 use Rattle.r4_content.specs.Edited.{Edits, Intervals, changed, is_in}
 use Rattle.r4_content.specs.Fields.{HasBytePaths}
 use Rattle.r4_content.specs.Held.{edits_of, pairs_of}
@@ -20,17 +20,17 @@ use Rattle.r4_extent_reaching.specs.Answers.{StopsWriting}
 use Rattle.r4_extent_reaching.specs.Meeting.{AreReadKeys, IsTouched, Planned}
 use Rattle.r4_extent_reaching.specs.Standing.{HasFileSizes, IsTooLong}
 use Rattle.r4_extent_reaching.proofs.Told.{told_is_so}
-use Rattle.r4_touching.specs.r4_reach.Touched.{Body, IsKindIn, body_key, body_of, body_on, changes_on, edits_on, kind_reads, raw_changes}
+use Rattle.r4_extent_reaching.specs.r4_touching.r4_reach.Touched.{Body, IsKindIn, body_key, body_of, body_on, changes_on, edits_on, kind_reads, raw_changes}
 use Rattle.r4_extent_reaching.specs.r4_reaching.Answers.{HaveObjectNumbers, IsAllSeen, SeesLowObject}
 use Rattle.r4_extent_reaching.specs.r4_reaching.Gathering.{IsPartMet}
 use Rattle.r4_extent_reaching.proofs.r4_reaching.Found.{found_inside, found_lawful}
 use Rattle.r4_extent_reaching.proofs.r4_reaching.Planned.{ChangesLawfulKeys, suits}
 use Rattle.r4_extent_reaching.proofs.r4_reaching.Touched.{seen_in}
-use Rattle.r4_search.specs.Keeping.{Shared, WereAnswered, keeping_state}
-use Rattle.r4_search.specs.Pool.{PoolState}
-use Rattle.r4_search.specs.declared.pool.FetchFault.{FetchFault}
-use Rattle.r4_search.specs.declared.pool.FetchFault.TheVariants.{Damaged}
-use Rattle.r4_touching.specs.r4_seeing.Looking.{met_cells}
+use Rattle.r4_extent_asks.specs.r4_search.Keeping.{Shared, WereAnswered, keeping_state}
+use Rattle.r4_extent_asks.specs.r4_search.Pool.{PoolState}
+use Rattle.r4_extent_asks.specs.r4_search.declared.pool.FetchFault.{FetchFault}
+use Rattle.r4_extent_asks.specs.r4_search.declared.pool.FetchFault.TheVariants.{Damaged}
+use Rattle.r4_extent_reaching.specs.r4_touching.r4_seeing.Looking.{met_cells}
 use Rattle.r4_extent_reaching.specs.r4_spared.Spared.{AreObjectsSeen}
 use Rattle.r4_extent_commands.specs.r4_suited.Suited.{AreLawfulSeen}
 use Rattle.r4_extent_reach.specs.Known.{HasBody, HasEdits, IsMetFor}

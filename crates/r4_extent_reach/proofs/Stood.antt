@@ -14,9 +14,9 @@ use Rattle.r4_extent_asks.specs.r4_extent_demands.Sizes.{IsSized}
 use Rattle.r4_extent_reaching.specs.Standing.{HasFileSizes, IsTooLong}
 use Rattle.r4_extent_reaching.specs.Within.{AreOneBody}
 use Rattle.r4_extent_reaching.proofs.Within.{inside, still_of_tree}
-use Rattle.r4_touching.specs.r4_reach.Touched.{Body, body_of, grows, kind_reads, last_byte, raw_changes, shown_at}
-use Rattle.r4_search.specs.Pool.{PoolState}
-use Rattle.r4_search.proofs.Walks.{goes_same}
+use Rattle.r4_extent_reaching.specs.r4_touching.r4_reach.Touched.{Body, body_of, grows, kind_reads, last_byte, raw_changes, shown_at}
+use Rattle.r4_extent_asks.specs.r4_search.Pool.{PoolState}
+use Rattle.r4_extent_asks.proofs.r4_search.Walks.{goes_same}
 use Rattle.r4_extent_reach.specs.Standing.{IsStood, IsTold, MayBeShown, kind_of}
 use Rattle.r4_extent_reach.specs.Standing.{stood}
 

@@ -4,8 +4,8 @@ use Rattle.std.specs.Prelude.{nat_lt, Option, Some, None}
 use Rattle.std.specs.Option.{option_map}
 use Rattle.std.proofs.lemmas.Bool.{or_cases}
 use Rattle.r4_base.specs.Key.{top}
-use Rattle.r4_cell.specs.Seen.{node_of}
-use Rattle.r4_cell.specs.declared.change.Root.{Root}
+use Rattle.r4_extent_commands.specs.r4_cell.Seen.{node_of}
+use Rattle.r4_extent_commands.specs.r4_cell.declared.change.Root.{Root}
 use Rattle.r4_content.specs.Edited.{Edits, Intervals, changed, is_in}
 use Rattle.r4_content.specs.Held.{edits_of, pairs_of}
 use Rattle.r4_content.specs.declared.command.Command.{Command}
@@ -13,15 +13,15 @@ use Rattle.r4_content.specs.declared.edits.Edits.{Edits as HeldEdits}
 use Rattle.r4_content.specs.declared.seen.Seen.{Seen}
 use Rattle.r4_extent_reaching.specs.Answers.{StopsWriting, is_met_besides}
 use Rattle.r4_extent_reaching.specs.r4_extent_touching.Holding.{StopsLeft}
-use Rattle.r4_touching.specs.r4_reach.Needs.{going_of, twig_turns}
-use Rattle.r4_touching.specs.r4_reach.Touched.{Body, body_key, body_of, body_on, changes_on, edits_on, kind_reads, raw_changes}
+use Rattle.r4_extent_reaching.specs.r4_touching.r4_reach.Needs.{going_of, twig_turns}
+use Rattle.r4_extent_reaching.specs.r4_touching.r4_reach.Touched.{Body, body_key, body_of, body_on, changes_on, edits_on, kind_reads, raw_changes}
 use Rattle.r4_extent_reaching.specs.r4_reaching.Answers.{IsAllSeen, IsSeenIn, StopsJudging}
 use Rattle.r4_extent_reaching.proofs.r4_reaching.Standing.{found_on}
 use Rattle.r4_extent_reaching.proofs.r4_reaching.Touched.{seen_in}
-use Rattle.r4_search.specs.Pool.{Goes, PoolState}
-use Rattle.r4_search.specs.declared.pool.FetchFault.{FetchFault}
-use Rattle.r4_search.specs.declared.pool.FetchFault.TheVariants.{Memory}
-use Rattle.r4_touching.specs.Touching.{StopsFor}
+use Rattle.r4_extent_asks.specs.r4_search.Pool.{Goes, PoolState}
+use Rattle.r4_extent_asks.specs.r4_search.declared.pool.FetchFault.{FetchFault}
+use Rattle.r4_extent_asks.specs.r4_search.declared.pool.FetchFault.TheVariants.{Memory}
+use Rattle.r4_extent_reaching.specs.r4_touching.Touching.{StopsFor}
 use Rattle.r4_extent_commands.specs.Bodies.{LiesInBody}
 use Rattle.r4_extent_reach.specs.Known.{AreChanges, HasBody, HasEdits}
 use Rattle.r4_extent_reach.specs.Meeting.{StopsAtKey, StopsAtLeft, StopsMeeting}

@@ -1,11 +1,18 @@
 -- What holds of each element of a list, as a loop goes over it.
-use Rattle.std.proofs.Common.{◌≡◌, inl, inr, ℕ, suc, ◌+◌, ◌<◌, ◌≤◌, List, [], ◌∷◌, ◌++◌, length, map, take}
+use Rattle.std.proofs.Common.{◌≡◌, inl, inr, ℕ, zero, suc, ◌+◌, ◌<◌, ◌≤◌, List, [], ◌∷◌, ◌++◌, length, map, take}
 use Rattle.std.proofs.Common.{arith, ap, get_or, subst, sym, ◌∙◌}
 use Rattle.std.proofs.Math.Seq.{take-suc}
 use Rattle.std.proofs.lemmas.List.{map-append, take_all}
 use Rattle.std.proofs.lemmas.List.Elements.{Contains-append_cases}
 use Rattle.std.specs.Prelude.{Contains}
-use Rattle.r4_touching.proofs.r4_patch.Members.{cases, none}
+use Rattle.r4_extent_reaching.proofs.r4_touching.r4_patch.Members.{cases, here, later, none}
+
+pub member : {A B : Type 0} (f : A → B) (xs : List A) (i : ℕ) (d : A) → i < length xs
+    → Contains (map f xs) (f (get_or xs i d))
+member f [] i d less = absurd (omega (arith, less))
+member f (x ∷ xs) zero d less = here (f x) (map f xs)
+member f (x ∷ xs) (suc i) d less =
+    later (f x) (f (get_or xs i d)) (map f xs) (member f xs i d (omega (arith, less)))
 
 module _ {A B : Type 0} (f : A → B) (P : B → Type 0) (xs : List A) (i : ℕ) where
   up_to : (d : A) → i < length xs → map f (take (i + 1) xs) ≡ map f (take i xs) ++ (f (get_or xs i d) ∷ [])

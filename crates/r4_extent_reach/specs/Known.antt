@@ -2,7 +2,7 @@
 use Rattle.std.specs.Prelude.{◌≡◌, ℕ, ◌^◌, ◌<◌, ◌≤◌, Bool, true, Option}
 use Rattle.r4_base.specs.Key.{least, top}
 use Rattle.r4_extent_reaching.specs.r4_build.Building.{HaveLawfulKeys}
-use Rattle.r4_cell.specs.declared.change.Root.{Root}
+use Rattle.r4_extent_commands.specs.r4_cell.declared.change.Root.{Root}
 use Rattle.r4_content.specs.Edited.{Intervals, changed, is_in}
 use Rattle.r4_content.specs.Held.{edits_of, pairs_of}
 use Rattle.r4_content.specs.declared.command.Command.{Command}
@@ -12,9 +12,9 @@ use Rattle.r4_extent_commands.specs.Bodies.{KeepsFileSize, LiesInBody}
 use Rattle.r4_extent_asks.specs.r4_extent_demands.Sizes.{AreExtentEdits, IsSized}
 use Rattle.r4_extent_reaching.specs.Standing.{HasFileSizes}
 use Rattle.r4_extent_asks.specs.r4_leaf_edits.Suiting.{SuitLeaves}
-use Rattle.r4_touching.specs.r4_reach.Touched.{Body, body_on, changes_on, edits_on, raw_changes}
+use Rattle.r4_extent_reaching.specs.r4_touching.r4_reach.Touched.{Body, body_on, changes_on, edits_on, raw_changes}
 use Rattle.r4_extent_reaching.specs.r4_reaching.Answers.{IsAllSeen}
-use Rattle.r4_search.specs.Pool.{PoolState}
+use Rattle.r4_extent_asks.specs.r4_search.Pool.{PoolState}
 use Rattle.r4_extent_reach.specs.Meeting.{HasMet}
 use Rattle.r4_extent_reach.specs.Standing.{IsTold, stood}
 

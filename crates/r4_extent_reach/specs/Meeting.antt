@@ -2,22 +2,22 @@
 use Rattle.std.specs.Prelude.{◌≡◌, ◌⊎◌, ℕ, ◌<◌, ◌≤◌, ◌||◌, Bool, true, nat_lt, List, Contains, Option, None, Some}
 use Rattle.r4_base.specs.Key.{least, top}
 use Rattle.r4_base.specs.Tree.{Name}
-use Rattle.r4_cell.specs.Seen.{CellSeen, node_of}
-use Rattle.r4_cell.specs.declared.change.Root.{Root}
+use Rattle.r4_extent_commands.specs.r4_cell.Seen.{CellSeen, node_of}
+use Rattle.r4_extent_commands.specs.r4_cell.declared.change.Root.{Root}
 use Rattle.r4_content.specs.Edited.{Edits, Intervals, is_in}
 use Rattle.r4_extent_asks.specs.Demands.{DemandsSeen}
 use Rattle.r4_content.specs.Held.{edits_of}
 use Rattle.r4_extent_reaching.specs.r4_extent_touching.Holding.{AreHeld, AreLeftMet, StopsLeft}
 use Rattle.r4_outside.specs.Device.{State}
-use Rattle.r4_touching.specs.r4_reach.Needs.{going_of, twig_turns}
-use Rattle.r4_touching.specs.r4_reach.Touched.{Body, kind_reads}
+use Rattle.r4_extent_reaching.specs.r4_touching.r4_reach.Needs.{going_of, twig_turns}
+use Rattle.r4_extent_reaching.specs.r4_touching.r4_reach.Touched.{Body, kind_reads}
 use Rattle.r4_extent_reaching.specs.r4_reaching.Gathering.{IsOneMet}
-use Rattle.r4_search.specs.Path.{root_name}
-use Rattle.r4_search.specs.Pool.{Goes, IsKnown, IsNamed, LeavesDevice, PoolState}
-use Rattle.r4_search.specs.declared.pool.FetchFault.{FetchFault}
-use Rattle.r4_search.specs.declared.pool.FetchFault.TheVariants.{Memory}
-use Rattle.r4_touching.specs.r4_seeing.Looking.{AreHung}
-use Rattle.r4_touching.specs.Touching.{StopsFor}
+use Rattle.r4_extent_asks.specs.r4_search.Path.{root_name}
+use Rattle.r4_extent_asks.specs.r4_search.Pool.{Goes, IsKnown, IsNamed, LeavesDevice, PoolState}
+use Rattle.r4_extent_asks.specs.r4_search.declared.pool.FetchFault.{FetchFault}
+use Rattle.r4_extent_asks.specs.r4_search.declared.pool.FetchFault.TheVariants.{Memory}
+use Rattle.r4_extent_reaching.specs.r4_touching.r4_seeing.Looking.{AreHung}
+use Rattle.r4_extent_reaching.specs.r4_touching.Touching.{StopsFor}
 
 -- ---- a pool that keeps all cells
 

@@ -3,8 +3,8 @@ use Rattle.std.specs.Prelude.{◌≡◌, ◌≢◌, ◌⊎◌, ℕ, ◌+◌, ◌
 use Rattle.r4_base.specs.Key.{least, top}
 use Rattle.r4_content.specs.Edited.{is_between}
 use Rattle.r4_extent_reaching.specs.Telling.{IsKindTold}
-use Rattle.r4_touching.specs.r4_reach.Touched.{Body, shown_at}
-use Rattle.r4_search.specs.Pool.{Goes, PoolState}
+use Rattle.r4_extent_reaching.specs.r4_touching.r4_reach.Touched.{Body, shown_at}
+use Rattle.r4_extent_asks.specs.r4_search.Pool.{Goes, PoolState}
 
 -- the body where it stood so
 abbrev pub standing : (in_extents : Bool) → Body → Body

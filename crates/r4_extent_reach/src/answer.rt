@@ -1,26 +1,25 @@
 //! A reach, from the cells that were met and those that are read and written (docs/volume.md, "Reach").
 
-ghost use Rattle.std.specs.Prelude.{◌≡◌, ◌+◌, Contains, IfOk, false, length, map, sum_by, true};
+ghost use Rattle.std.specs.Prelude.{◌≡◌, ◌↔◌, ◌+◌, Contains, IfOk, false, length, map, sum_by, true};
 ghost use Rattle.std.specs.Arc.{arc_value};
 ghost use Rattle.std.specs.Option.{option_copied, option_map};
 ghost use Rattle.r4_base.specs.Tree.{Span};
-ghost use Rattle.r4_bodies.specs.r4_leaf_demands.Leaves.{IsInLeaves};
-ghost use Rattle.r4_cell.specs.Seen.{CellSeen, node_of};
+ghost use Rattle.r4_extent_asks.specs.r4_bodies.r4_leaf_demands.Leaves.{IsInLeaves};
+ghost use Rattle.r4_extent_commands.specs.r4_cell.Seen.{CellSeen, node_of};
 ghost use Rattle.r4_content.specs.Held.{edits_of, interval_of};
 ghost use Rattle.r4_extent_reaching.specs.r4_extent_counts.Coming.{twig_cells};
 ghost use Rattle.r4_extent_asks.specs.r4_extent_demands.Sizes.{AreExtentEdits};
 ghost use Rattle.r4_extent_reaching.specs.Meeting.{IsFrom, IsOfLeaves};
 ghost use Rattle.r4_extent_asks.specs.r4_marking.Marks.{ask_seen};
-ghost use Rattle.r4_touching.specs.r4_reach.Leaves.{rise_of};
-ghost use Rattle.r4_touching.specs.r4_reach.Needs.{is_met};
+ghost use Rattle.r4_extent_reaching.specs.r4_touching.r4_reach.Leaves.{rise_of};
+ghost use Rattle.r4_extent_reaching.specs.r4_touching.r4_reach.Needs.{is_met};
 ghost use Rattle.r4_extent_reach.specs.Standing.{stood};
 
 use crate::known::Known;
 use r4_base::Memory;
-use r4_cell::{Cell, Cells, Root};
 use r4_content::{Interval, Seen};
 use r4_extent_asks::{Marks, SizedBody, Way, extents_have};
-use r4_extent_reaching::{Reach, cells_coming};
+use r4_extent_reaching::{Cell, Cells, Reach, Root, cells_coming};
 use std::alloc::{AllocError, Global};
 use std::sync::Arc;
 
@@ -60,16 +59,17 @@ pub(crate) fn reach_from(
 
 // Whether no body stands in extents, before or afterwards, and none of the cells has an extent with one of these keys.
 fn is_of_leaves(body: Option<&SizedBody>, changes: &[Interval], met: &[Arc<Cell>]) -> bool
-    ensures { result ≡ true → IsOfLeaves (option_copied body.entry) (stood (option_copied body.entry))
-        (map interval_of changes.now) (map (λ c. arc_value c) met.now) }
+    ensures { (result ≡ true) ↔ IsOfLeaves (option_copied body.entry)
+        (stood (option_copied body.entry)) (map interval_of changes.now)
+        (map (λ c. arc_value c) met.now) }
 {
     !is_spread(body) && spare_extents(changes, met)
 }
 
 // Whether a body stands in extents afterwards, if there is one.
 fn is_spread(body: Option<&SizedBody>) -> bool
-    ensures { result ≡ false → IsInLeaves (option_copied body.entry)
-        × (stood (option_copied body.entry) ≡ false) }
+    ensures { (result ≡ false) ↔ (IsInLeaves (option_copied body.entry)
+        × (stood (option_copied body.entry) ≡ false)) }
 {
     match body {
         Some(body) => body.is_spread(),
@@ -79,9 +79,9 @@ fn is_spread(body: Option<&SizedBody>) -> bool
 
 // Whether none of the cells has an extent with one of these keys.
 fn spare_extents(changes: &[Interval], cells: &[Arc<Cell>]) -> bool
-    ensures { result ≡ true → (x : CellSeen) (s : Span)
+    ensures { (result ≡ true) ↔ ((x : CellSeen) (s : Span)
         → Contains (map (λ c. arc_value c) cells.now) x → Contains (node_of x).spans s
-        → is_met (map interval_of changes.now) s.lo s.hi ≡ false }
+        → is_met (map interval_of changes.now) s.lo s.hi ≡ false) }
 {
     for cell in cells {
         if !spares_extents(changes, cell) {
@@ -93,8 +93,8 @@ fn spare_extents(changes: &[Interval], cells: &[Arc<Cell>]) -> bool
 
 // Whether a cell has no extent with one of these keys; a data block has none.
 fn spares_extents(changes: &[Interval], cell: &Cell) -> bool
-    ensures { result ≡ true → (s : Span) → Contains (node_of cell.now).spans s
-        → is_met (map interval_of changes.now) s.lo s.hi ≡ false }
+    ensures { (result ≡ true) ↔ ((s : Span) → Contains (node_of cell.now).spans s
+        → is_met (map interval_of changes.now) s.lo s.hi ≡ false) }
 {
     cell.level() == 0 || !extents_have(Way::Meets(changes), cell)
 }

@@ -3,11 +3,11 @@
 ghost use Rattle.std.specs.Prelude.{◌≡◌, ◌⊎◌, ◌≤◌, ℕ, Contains, IfErr, OnOk, map, true};
 ghost use Rattle.std.specs.Arc.{arc_value};
 ghost use Rattle.r4_base.specs.Key.{rank};
-ghost use Rattle.r4_cell.specs.Seen.{CellSeen};
+ghost use Rattle.r4_extent_commands.specs.r4_cell.Seen.{CellSeen};
 ghost use Rattle.r4_content.specs.Held.{edits_of, interval_of};
-ghost use Rattle.r4_search.specs.Keeping.{keeping_state};
-ghost use Rattle.r4_search.specs.Pool.{Goes, KnowsNames, LeavesDevice};
-ghost use Rattle.r4_search.specs.declared.pool.FetchFault.TheVariants.{Memory as NoMemory};
+ghost use Rattle.r4_extent_asks.specs.r4_search.Keeping.{keeping_state};
+ghost use Rattle.r4_extent_asks.specs.r4_search.Pool.{Goes, KnowsNames, LeavesDevice};
+ghost use Rattle.r4_extent_asks.specs.r4_search.declared.pool.FetchFault.TheVariants.{Memory as NoMemory};
 ghost use Rattle.r4_extent_asks.specs.r4_extent_demands.Sizes.{AreExtentEdits};
 ghost use Rattle.r4_extent_reaching.specs.r4_extent_touching.Holding.{AreLeftMet, StopsLeft};
 ghost use Rattle.r4_extent_reach.specs.Meeting.{AreBesideMet, CanMeet, GoesOn, MeetsBeside};
@@ -15,11 +15,9 @@ ghost use Rattle.r4_extent_reach.specs.Meeting.{MeetsBesideOne, StopsAtLeft, Sto
 
 use crate::known::Known;
 use r4_base::Key;
-use r4_cell::{Cell, Root};
 use r4_content::Interval;
-use r4_extent_asks::{Demands, ExtentDemands, first_gone};
-use r4_extent_reaching::{in_order, touch_left};
-use r4_search::{FetchFault, Keeping, Pool};
+use r4_extent_asks::{Demands, ExtentDemands, FetchFault, Keeping, Pool, first_gone};
+use r4_extent_reaching::{Cell, Root, in_order, touch_left};
 use std::alloc::Global;
 use std::sync::Arc;
 

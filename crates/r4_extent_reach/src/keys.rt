@@ -2,10 +2,10 @@
 
 ghost use Rattle.std.specs.Prelude.{◌≡◌, ◌||◌, ◌<◌, ◌≤◌, ℕ, IfOk, OnOk, map};
 ghost use Rattle.r4_base.specs.Key.{least, top};
-ghost use Rattle.r4_bodies.specs.Told.{intervals_of};
+ghost use Rattle.r4_extent_asks.specs.r4_bodies.Told.{intervals_of};
 ghost use Rattle.r4_content.specs.Edited.{is_in};
 ghost use Rattle.r4_content.specs.Held.{interval_of};
-ghost use Rattle.r4_touching.specs.Changed.{AddsKeys};
+ghost use Rattle.r4_extent_reaching.specs.r4_touching.Changed.{AddsKeys};
 
 use r4_base::Memory;
 use r4_content::Interval;

@@ -2,24 +2,22 @@
 
 ghost use Rattle.std.specs.Prelude.{◌≡◌, ◌≤◌, ◌<◌, ◌+◌, ◌∷◌, [], ℕ, IfErr, OnOk, map, true};
 ghost use Rattle.r4_base.specs.Key.{least, top};
-ghost use Rattle.r4_bodies.specs.Told.{intervals_of};
+ghost use Rattle.r4_extent_asks.specs.r4_bodies.Told.{intervals_of};
 ghost use Rattle.r4_content.specs.Edited.{is_in};
 ghost use Rattle.r4_content.specs.Held.{edits_of, interval_of};
 ghost use Rattle.r4_extent_asks.specs.r4_extent_demands.Sizes.{AreExtentEdits};
-ghost use Rattle.r4_touching.specs.r4_reach.Touched.{kind_reads};
+ghost use Rattle.r4_extent_reaching.specs.r4_touching.r4_reach.Touched.{kind_reads};
 ghost use Rattle.r4_extent_reaching.specs.r4_reaching.Gathering.{IsOneMet};
-ghost use Rattle.r4_search.specs.Keeping.{keeping_state};
-ghost use Rattle.r4_touching.specs.Touching.{StopsFor};
+ghost use Rattle.r4_extent_asks.specs.r4_search.Keeping.{keeping_state};
+ghost use Rattle.r4_extent_reaching.specs.r4_touching.Touching.{StopsFor};
 ghost use Rattle.r4_extent_reach.specs.Meeting.{CanMeet, GoesOn, HasMet, StopsMeeting};
 
 use crate::beside::meet_beside;
 use crate::keys::keys_to_touch;
 use crate::known::Known;
-use r4_cell::{Root, least};
 use r4_content::Interval;
-use r4_extent_reaching::touch_all;
-use r4_search::{FetchFault, Keeping, Pool};
-use r4_sight::key_after;
+use r4_extent_asks::{FetchFault, Keeping, Pool};
+use r4_extent_reaching::{Root, key_after, least, touch_all};
 use std::alloc::Global;
 
 /// Meets the cells that hold the keys which change and the one that tells where the body stands, then the leaves beside

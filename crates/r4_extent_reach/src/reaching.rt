@@ -6,15 +6,15 @@ ghost use Rattle.r4_content.specs.Edited.{Intervals};
 ghost use Rattle.r4_content.specs.Fields.{HasBytePaths};
 ghost use Rattle.r4_content.specs.Held.{interval_of};
 ghost use Rattle.r4_content.specs.declared.command.Command.{Command as CommandSeen};
-ghost use Rattle.r4_touching.specs.r4_gather.Asking.{StaysOver};
-ghost use Rattle.r4_touching.specs.r4_gather.Finding.{asked_keys};
-ghost use Rattle.r4_touching.specs.r4_reach.Touched.{kind_reads};
+ghost use Rattle.r4_extent_reaching.specs.r4_touching.r4_gather.Asking.{StaysOver};
+ghost use Rattle.r4_extent_reaching.specs.r4_touching.r4_gather.Finding.{asked_keys};
+ghost use Rattle.r4_extent_reaching.specs.r4_touching.r4_reach.Touched.{kind_reads};
 ghost use Rattle.r4_extent_reaching.specs.r4_reaching.Answers.{IsAllSeen, IsSamePool, StopsJudging};
-ghost use Rattle.r4_search.specs.Keeping.{Shared, keeping_state};
-ghost use Rattle.r4_search.specs.Path.{root_name};
-ghost use Rattle.r4_search.specs.Pool.{IsKnown, KeepsNone};
-ghost use Rattle.r4_search.specs.declared.pool.FetchFault.TheVariants.{Damaged};
-ghost use Rattle.r4_bodies.specs.Told.{intervals_of};
+ghost use Rattle.r4_extent_asks.specs.r4_search.Keeping.{Shared, keeping_state};
+ghost use Rattle.r4_extent_asks.specs.r4_search.Path.{root_name};
+ghost use Rattle.r4_extent_asks.specs.r4_search.Pool.{IsKnown, KeepsNone};
+ghost use Rattle.r4_extent_asks.specs.r4_search.declared.pool.FetchFault.TheVariants.{Damaged};
+ghost use Rattle.r4_extent_asks.specs.r4_bodies.Told.{intervals_of};
 ghost use Rattle.r4_extent_reaching.specs.Answers.{IsReach, StopsReach, StopsWriting};
 ghost use Rattle.r4_extent_reach.specs.Known.{HasBody, HasEdits, IsMetFor};
 ghost use Rattle.r4_extent_reach.specs.Meeting.{GoesOn};
@@ -26,15 +26,15 @@ use crate::meeting::meet_all;
 use crate::objects::sees_low_object;
 use crate::standing::{is_too_long, kind_read, standing_body};
 use r4_base::{BlockNo, CellFault};
-use r4_bodies::body_changed;
-use r4_cell::Root;
 use r4_content::{Command, Edits, Interval, Seen};
-use r4_extent_asks::{ExtentDemands, changes_of, commands_of_extents_may_ask, mark};
+use r4_extent_asks::{
+    ExtentDemands, FetchFault, Keeping, Pool, body_changed, changes_of,
+    commands_of_extents_may_ask, mark,
+};
 use r4_extent_commands::{bodies_keep_file_sizes, edits_lie_in_one_body};
-use r4_extent_reaching::{Reach, commands_change_lawful_keys, part_met};
-use r4_file::plan;
-use r4_search::{FetchFault, Keeping, Pool};
-use r4_touching::{Asked, Seeing, keys_asked, see_for};
+use r4_extent_reaching::{
+    Asked, Reach, Root, Seeing, commands_change_lawful_keys, keys_asked, part_met, plan, see_for,
+};
 use std::alloc::Global;
 
 /// What a command reads and writes of the tree of a pool, wherever the body that it changes stands: the pool as it is

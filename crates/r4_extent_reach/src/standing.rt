@@ -3,22 +3,19 @@
 ghost use Rattle.std.specs.Prelude.{◌≡◌, ◌<◌, ◌≤◌, ◌^◌, ℕ, IfErr, IfOk, IsTrue, ◌↔◌, true};
 ghost use Rattle.std.specs.Option.{option_copied};
 ghost use Rattle.r4_base.specs.Key.{rank};
-ghost use Rattle.r4_bodies.specs.Told.{intervals_of};
-ghost use Rattle.r4_touching.specs.r4_reach.Touched.{Body, kind_reads, shown_at};
-ghost use Rattle.r4_search.specs.Path.{root_name};
-ghost use Rattle.r4_search.specs.Pool.{IsKnown, LeavesDevice};
-ghost use Rattle.r4_touching.specs.Touching.{StopsFor, Touches};
+ghost use Rattle.r4_extent_asks.specs.r4_bodies.Told.{intervals_of};
+ghost use Rattle.r4_extent_reaching.specs.r4_touching.r4_reach.Touched.{Body, kind_reads, shown_at};
+ghost use Rattle.r4_extent_asks.specs.r4_search.Path.{root_name};
+ghost use Rattle.r4_extent_asks.specs.r4_search.Pool.{IsKnown, LeavesDevice};
+ghost use Rattle.r4_extent_reaching.specs.r4_touching.Touching.{StopsFor, Touches};
 ghost use Rattle.r4_extent_reaching.specs.Standing.{IsTooLong};
 ghost use Rattle.r4_extent_reach.specs.Standing.{IsShown, IsStanding, IsStood, MayBeShown, kind_of};
 ghost use Rattle.r4_extent_reach.specs.Standing.{shown_keys, standing};
 
 use r4_base::Key;
-use r4_bodies::BodyChange;
-use r4_cell::Root;
 use r4_content::Interval;
-use r4_extent_asks::SizedBody;
-use r4_extent_reaching::stands_in_extents;
-use r4_search::{FetchFault, Pool};
+use r4_extent_asks::{BodyChange, FetchFault, Pool, SizedBody};
+use r4_extent_reaching::{Root, stands_in_extents};
 use std::alloc::Global;
 
 /// How many bytes a file may have (docs/commands.md, "Bytes").

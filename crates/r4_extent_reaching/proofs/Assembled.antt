@@ -10,11 +10,11 @@ use Rattle.std.proofs.lemmas.List.{length-map}
 use Rattle.std.proofs.lemmas.List.Sums.{sum_by-cons}
 use Rattle.std.proofs.lemmas.Option.{none-some, same_Some}
 use Rattle.r4_base.specs.Key.{least, top}
-use Rattle.r4_base.specs.Tree.{Covers as CoversOf, Name, Node, Root as TreeRoot, Span, Store}
+use Rattle.r4_base.specs.Tree.{Covers as CoversOf, InSpan, Name, Node, Root as TreeRoot, Span, Store}
 use Rattle.r4_base.specs.Value.{Value}
-use Rattle.r4_cell.specs.Patch.{by_name, root_of_pair}
-use Rattle.r4_cell.specs.Seen.{CellSeen, node_of}
-use Rattle.r4_cell.specs.declared.change.Root.{Root}
+use Rattle.r4_reaching.specs.r4_cell.Patch.{by_name, root_of_pair}
+use Rattle.r4_reaching.specs.r4_cell.Seen.{CellSeen, node_of}
+use Rattle.r4_reaching.specs.r4_cell.declared.change.Root.{Root}
 use Rattle.r4_content.specs.Edited.{Intervals, Pairs, changed, is_in}
 use Rattle.r4_content.specs.Held.{edits_of, pairs_of}
 use Rattle.r4_content.specs.declared.command.Command.{Command}
@@ -27,27 +27,27 @@ use Rattle.r4_extent_touching.proofs.Touched.{all_there}
 use Rattle.r4_extent_touching.specs.r4_marking.Marks.{AreMarks, AreMarksOf, ask_seen}
 use Rattle.r4_extent_touching.specs.r4_marking.declared.demands.Asking.{Asking}
 use Rattle.r4_extent_touching.specs.r4_marking.declared.marking.Marks.{Marks}
-use Rattle.r4_patch.specs.Part.{IsPart}
-use Rattle.r4_patch.proofs.Members.{cases, here, later, none}
-use Rattle.r4_patch.proofs.Members.{found as named}
-use Rattle.r4_patch.proofs.Members.{distinct, there}
-use Rattle.r4_reach.specs.Answer.{IsSeenIn as SeesAll}
-use Rattle.r4_reach.specs.Demand.{Demand, Spans, ask, ask_of}
-use Rattle.r4_reach.specs.Leaves.{LieInLeaves, more_in, more_of, rise_of}
-use Rattle.r4_reach.specs.Needs.{Ask, cell_asks, changes_pieces, demand_of, demand_on, going_of, is_met, is_touched, leaf_asks, left_leaves, node_asks, twig_asks, twig_turns}
-use Rattle.r4_reach.specs.Reach.{HasTouched, IsRootAsking}
-use Rattle.r4_reach.specs.Touched.{Body, IsKindIn, body_on, changes_on, coming, edits_on, kind_reads, raw_changes, reads_on}
-use Rattle.r4_reach.specs.Touched.{turns_out, with_blocks}
+use Rattle.r4_reaching.specs.r4_patch.Part.{IsPart}
+use Rattle.r4_reaching.proofs.r4_patch.Members.{cases, here, later, none}
+use Rattle.r4_reaching.proofs.r4_patch.Members.{found as named}
+use Rattle.r4_reaching.proofs.r4_patch.Members.{distinct, there}
+use Rattle.r4_reaching.specs.r4_reach.Answer.{IsSeenIn as SeesAll}
+use Rattle.r4_reaching.specs.r4_reach.Demand.{Demand, Spans, ask, ask_of}
+use Rattle.r4_reaching.specs.r4_reach.Leaves.{LieInLeaves, more_in, more_of, rise_of}
+use Rattle.r4_reaching.specs.r4_reach.Needs.{Ask, cell_asks, changes_pieces, demand_of, demand_on, going_of, is_met, is_touched, leaf_asks, left_leaves, node_asks, twig_asks, twig_turns}
+use Rattle.r4_reaching.specs.r4_reach.Reach.{HasTouched, IsRootAsking}
+use Rattle.r4_reaching.specs.r4_reach.Touched.{Body, IsKindIn, body_on, changes_on, coming, edits_on, kind_reads, raw_changes, reads_on}
+use Rattle.r4_reaching.specs.r4_reach.Touched.{turns_out, with_blocks}
 use Rattle.r4_reaching.specs.Answers.{asked_by}
 use Rattle.r4_reaching.specs.r4_bodies.r4_leaf_demands.Leaves.{IsInLeaves}
 use Rattle.r4_reaching.specs.Gathering.{IsPartMet}
 use Rattle.r4_reaching.proofs.Found.{found_listed}
 use Rattle.r4_reaching.proofs.Made.{chosen_once, chosen_rise}
 use Rattle.r4_reaching.proofs.Standing.{seen_stands}
-use Rattle.r4_search.specs.Pool.{PoolState}
+use Rattle.r4_reaching.specs.r4_search.Pool.{PoolState}
 use Rattle.r4_reaching.specs.r4_seeing.Looking.{AreFound, met_cells}
 use Rattle.r4_extent_reaching.specs.Alike.{AreAlike}
-use Rattle.r4_extent_reaching.specs.Answers.{IsReach, LiesInLeaves}
+use Rattle.r4_extent_reaching.specs.Answers.{IsReach, LiesInLeaves, MeetsNoExtent}
 use Rattle.r4_extent_counts.specs.Coming.{most_with, twig_cells}
 use Rattle.r4_extent_reaching.specs.Meeting.{AreReadKeys, IsFrom, IsOfLeaves, IsTouched, Planned}
 use Rattle.r4_extent_reaching.specs.Standing.{HasFileSizes}
@@ -378,7 +378,7 @@ module _ (p : PoolState) (root : Root) (c : Command) (seen : Seen) (known questi
 
   leaves_alone : r.in_leaves ≡ true → LiesInLeaves c r
   leaves_alone on =
-      let leaves = from.leaves on in
+      let leaves = from.leaves.0 on in
       let seen_then = sym (ap pairs_of from.seen_is) in record {
         kind = from.kind_is ∙ leaves.kind;
         body = subst (λ (v : Pairs). IsInLeaves (body_on c v r.in_extents)) seen_then
@@ -387,6 +387,40 @@ module _ (p : PoolState) (root : Root) (c : Command) (seen : Seen) (known questi
         lie = subst (λ (v : Pairs). LieInLeaves (by_name r.met) (is_in (changed (edits_on c v)))) seen_then
             (in_leaf leaves);
       }
+
+  -- where none of the cells has an extent with a key that counts as changed, none is met
+  told_so : MeetsNoExtent c r → r.in_leaves ≡ true
+  told_so none =
+      from.leaves.1
+      (record {
+        kind = sym from.kind_is ∙ none.kind;
+        body = subst IsInLeaves (sym h.planned.body)
+            (subst (λ (t : Bool). IsInLeaves (body_on c (pairs_of seen) t)) from.kind_is
+            (subst (λ (v : Pairs). IsInLeaves (body_on c v r.in_extents)) (ap pairs_of from.seen_is) none.body));
+        spared = λ x s among has. by_test x s among has (is_met n.changes s.lo s.hi) refl;
+      })
+    where
+      off : (x : CellSeen) (s : Span) (k : ℕ) → Contains r.met x → Contains (node_of x).spans s → InSpan s k
+          → is_in (changes_on c (pairs_of seen) n.in_extents) k ≡ false
+      off x s k among has within =
+          subst (λ (t : Bool). is_in (changes_on c (pairs_of seen) t) k ≡ false) from.kind_is
+          (subst (λ (v : Pairs). is_in (changes_on c v r.in_extents) k ≡ false) (ap pairs_of from.seen_is)
+          (none.none x s k among has within))
+
+      by_test : (x : CellSeen) (s : Span) → Contains met x → Contains (node_of x).spans s → (b : Bool)
+          → is_met n.changes s.lo s.hi ≡ b → b ≡ false
+      by_test x s among has false is = refl
+      by_test x s among has true is =
+          let (k, at, low, high) = met_keys n.changes s.lo s.hi is in
+          let its = subst (λ (l : List CellSeen). Contains l x) (sym from.met_are) among in
+          let stands : by_name r.met x.id ≡ Some (node_of x) = there r.met x (distinct r.met its_met.met.names) its in
+          let node = its_met.met.part.nodes x.id (node_of x) stands in
+          let end = node.span_to s has in
+          let high_top = node.to_top in
+          let below : k < top = omega (arith, high, end, high_top) in
+          absurd (let on = sym (h.planned.changes k below) ∙ at in
+          let no = off x s k its has (low, high) in
+          let f : true ≡ false = sym on ∙ no in cc)
 
   as_seen : Seen → Bool → Type 0
   as_seen v b = r.most ≡ most_with (body_on c (pairs_of v) b) (edits_on c (pairs_of v)) (demand_on c (pairs_of v) b)
@@ -411,6 +445,7 @@ module _ (p : PoolState) (root : Root) (c : Command) (seen : Seen) (known questi
     seen = sym (ap pairs_of from.seen_is);
     kind = sym from.kind_is;
     leaves = leaves_alone;
+    told = told_so;
     sizes = subst (λ (v : Seen). HasFileSizes (body_on c (pairs_of v) r.in_extents)) (sym from.seen_is)
         (subst (λ (b : Bool). HasFileSizes (body_on c (pairs_of seen) b)) (sym from.kind_is)
         (subst HasFileSizes h.planned.body h.planned.sizes));

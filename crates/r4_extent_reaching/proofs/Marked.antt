@@ -4,13 +4,13 @@ use Rattle.std.specs.Prelude.{Contains, Option, None, Some, ◌==◌, if◌then�
 use Rattle.r4_base.specs.Key.{least, top}
 use Rattle.r4_base.specs.Tree.{InNode, Name, Node, Root, Store}
 use Rattle.r4_base.specs.Value.{Value}
-use Rattle.r4_cell.specs.Patch.{by_name}
-use Rattle.r4_cell.specs.Seen.{CellSeen}
+use Rattle.r4_reaching.specs.r4_cell.Patch.{by_name}
+use Rattle.r4_reaching.specs.r4_cell.Seen.{CellSeen}
 use Rattle.r4_extent_touching.specs.r4_marking.Marks.{AreChosen, AreMarks}
-use Rattle.r4_patch.specs.Part.{IsPart}
-use Rattle.r4_reach.specs.Demand.{Demand, Spans, ask, ask_of, heard, heard_one}
-use Rattle.r4_reach.specs.Needs.{Ask}
-use Rattle.r4_reach.specs.Reach.{IsAt, IsRead, IsReadAt, IsReached, IsRootAsking, IsWritten, IsWrittenAt}
+use Rattle.r4_reaching.specs.r4_patch.Part.{IsPart}
+use Rattle.r4_reaching.specs.r4_reach.Demand.{Demand, Spans, ask, ask_of, heard, heard_one}
+use Rattle.r4_reaching.specs.r4_reach.Needs.{Ask}
+use Rattle.r4_reaching.specs.r4_reach.Reach.{IsAt, IsRead, IsReadAt, IsReached, IsRootAsking, IsWritten, IsWrittenAt}
 use Rattle.r4_extent_reaching.specs.Alike.{AreAlike}
 
 pub alike_back : (d f : Demand Ask) (t : Store Value) → AreAlike d f t → AreAlike f d t

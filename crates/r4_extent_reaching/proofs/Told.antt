@@ -7,22 +7,22 @@ use Rattle.std.specs.List.{list_any}
 use Rattle.std.proofs.lemmas.List.Concat.{flat_map-cons}
 use Rattle.std.proofs.lemmas.Bool.Decides.{nat_tests}
 use Rattle.r4_base.specs.Key.{least, rank, top}
-use Rattle.r4_cell.specs.Patch.{by_name, root_of_pair}
-use Rattle.r4_cell.specs.Seen.{CellSeen, node_of}
-use Rattle.r4_cell.specs.declared.change.Root.{Root}
+use Rattle.r4_reaching.specs.r4_cell.Patch.{by_name, root_of_pair}
+use Rattle.r4_reaching.specs.r4_cell.Seen.{CellSeen, node_of}
+use Rattle.r4_reaching.specs.r4_cell.declared.change.Root.{Root}
 use Rattle.r4_content.specs.Edited.{Pairs, is_between, is_in}
 use Rattle.r4_content.specs.Held.{part_pairs}
 use Rattle.r4_content.specs.Seen.{pairs_in}
 use Rattle.r4_content.specs.declared.seen.SeenPart.{SeenPart}
 use Rattle.r4_reaching.proofs.r4_judging.Below.{node_says}
-use Rattle.r4_patch.proofs.PartCells.{leaf_or_extent}
-use Rattle.r4_reach.specs.Touched.{Body, IsKindIn, has_unit, shown_at}
+use Rattle.r4_reaching.proofs.r4_patch.PartCells.{leaf_or_extent}
+use Rattle.r4_reaching.specs.r4_reach.Touched.{Body, IsKindIn, has_unit, shown_at}
 use Rattle.r4_reaching.specs.Gathering.{IsPartMet}
-use Rattle.r4_search.specs.Pool.{Goes, IsOf, PoolState}
+use Rattle.r4_reaching.specs.r4_search.Pool.{Goes, IsOf, PoolState}
 use Rattle.r4_reaching.specs.r4_seeing.Looking.{met_cells}
-use Rattle.r4_sight.specs.Parts.{AreFull, all_pairs}
-use Rattle.r4_sight.specs.Stretches.{IsStretch}
-use Rattle.r4_sight.specs.declared.stretch.Stretch.{Stretch}
+use Rattle.r4_extent_touching.specs.r4_sight.Parts.{AreFull, all_pairs}
+use Rattle.r4_extent_touching.specs.r4_sight.Stretches.{IsStretch}
+use Rattle.r4_extent_touching.specs.r4_sight.declared.stretch.Stretch.{Stretch}
 use Rattle.r4_reaching.specs.r4_touching.Touching.{AreHeld, IsInExtent}
 use Rattle.r4_extent_reaching.specs.Telling.{IsKindTold}
 

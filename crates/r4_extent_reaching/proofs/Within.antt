@@ -8,9 +8,9 @@ use Rattle.r4_base.specs.Key.{key_of_rank, least, rank, top}
 use Rattle.r4_base.specs.Volume.{byte_rank, object_of}
 use Rattle.r4_base.specs.declared.items.Target.{Target}
 use Rattle.r4_content.specs.Edited.{Intervals, is_between, is_in}
-use Rattle.r4_patch.proofs.Members.{here, later}
-use Rattle.r4_reach.specs.Reach.{is_body}
-use Rattle.r4_reach.specs.Touched.{Body, blocks_end, coming, first_byte, is_spread, raw_changes, turns_out, whole_blocks, with_blocks}
+use Rattle.r4_reaching.proofs.r4_patch.Members.{here, later}
+use Rattle.r4_reaching.specs.r4_reach.Reach.{is_body}
+use Rattle.r4_reaching.specs.r4_reach.Touched.{Body, blocks_end, coming, first_byte, is_spread, raw_changes, turns_out, whole_blocks, with_blocks}
 use Rattle.r4_extent_reaching.specs.Standing.{HasFileSizes}
 use Rattle.r4_extent_reaching.specs.Within.{AreOneBody}
 

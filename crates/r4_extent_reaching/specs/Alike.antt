@@ -3,8 +3,8 @@ use Rattle.std.specs.Prelude.{◌≡◌, ℕ, ◌<◌, ◌≤◌, List, Some}
 use Rattle.r4_base.specs.Key.{least, top}
 use Rattle.r4_base.specs.Tree.{Name, Node, Store}
 use Rattle.r4_base.specs.Value.{Value}
-use Rattle.r4_reach.specs.Demand.{Demand}
-use Rattle.r4_reach.specs.Needs.{Ask}
+use Rattle.r4_reaching.specs.r4_reach.Demand.{Demand}
+use Rattle.r4_reaching.specs.r4_reach.Needs.{Ask}
 
 -- They read and change the same keys of a tree, and of each cell they ask the same.
 pub record AreAlike (d f : Demand Ask) (t : Store Value) : Type 0 where

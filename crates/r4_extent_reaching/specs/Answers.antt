@@ -1,26 +1,27 @@
 -- What is answered on what a command reads and writes, bodies in extents included (docs/volume.md, "Reach"). A key is
 -- its rank.
-use Rattle.std.specs.Prelude.{◌≡◌, ◌⊎◌, ℕ, ◌<◌, ◌≤◌, All, Bool, true, false, nat_lt, Some}
+use Rattle.std.specs.Prelude.{◌≡◌, ◌⊎◌, ℕ, ◌<◌, ◌≤◌, All, Bool, true, false, nat_lt, Contains, Some}
+use Rattle.r4_base.specs.Tree.{InSpan, Span}
 use Rattle.r4_base.specs.Key.{least, top}
 use Rattle.r4_base.specs.declared.items.CellFault.TheVariants.{Range}
-use Rattle.r4_cell.specs.Patch.{HaveNames, by_name, root_of_pair}
-use Rattle.r4_cell.specs.Seen.{CellSeen, node_of}
-use Rattle.r4_cell.specs.declared.change.Root.{Root}
+use Rattle.r4_reaching.specs.r4_cell.Patch.{HaveNames, by_name, root_of_pair}
+use Rattle.r4_reaching.specs.r4_cell.Seen.{CellSeen, node_of}
+use Rattle.r4_reaching.specs.r4_cell.declared.change.Root.{Root}
 use Rattle.r4_content.specs.Edited.{Intervals, Pairs, changed, is_in}
 use Rattle.r4_content.specs.Held.{pairs_of}
 use Rattle.r4_content.specs.declared.command.Command.{Command}
 use Rattle.r4_extent_touching.specs.Holding.{StopsLeft}
 use Rattle.r4_reaching.specs.r4_judging.Judging.{IsSound}
-use Rattle.r4_reach.specs.Answer.{IsReachOf}
-use Rattle.r4_reach.specs.Leaves.{LieInLeaves}
-use Rattle.r4_reach.specs.Needs.{demand_on, going_of, twig_turns}
-use Rattle.r4_reach.specs.Touched.{body_on, changes_on, edits_on, kind_reads}
+use Rattle.r4_reaching.specs.r4_reach.Answer.{IsReachOf}
+use Rattle.r4_reaching.specs.r4_reach.Leaves.{LieInLeaves}
+use Rattle.r4_reaching.specs.r4_reach.Needs.{demand_on, going_of, twig_turns}
+use Rattle.r4_reaching.specs.r4_reach.Touched.{body_on, changes_on, edits_on, kind_reads}
 use Rattle.r4_reaching.specs.Answers.{IsSeenIn, StopsAsking, StopsAtObject, StopsJudging}
 use Rattle.r4_reaching.specs.Gathering.{AreAllMet}
 use Rattle.r4_reaching.specs.r4_bodies.r4_leaf_demands.Leaves.{IsInLeaves}
-use Rattle.r4_search.specs.Pool.{PoolState}
-use Rattle.r4_search.specs.declared.pool.FetchFault.{FetchFault}
-use Rattle.r4_search.specs.declared.pool.FetchFault.TheVariants.{Damaged}
+use Rattle.r4_reaching.specs.r4_search.Pool.{PoolState}
+use Rattle.r4_reaching.specs.r4_search.declared.pool.FetchFault.{FetchFault}
+use Rattle.r4_reaching.specs.r4_search.declared.pool.FetchFault.TheVariants.{Damaged}
 use Rattle.r4_reaching.specs.r4_touching.Touching.{StopsFor}
 use Rattle.r4_reaching.specs.r4_work.Order.{AreInOrder}
 use Rattle.r4_extent_counts.specs.Coming.{most_with}
@@ -33,16 +34,24 @@ pub record LiesInLeaves (c : Command) (r : Reach) : Type 0 where
   pub body : IsInLeaves (body_on c (pairs_of r.seen) r.in_extents)
   pub lie : LieInLeaves (by_name r.met) (is_in (changed (edits_on c (pairs_of r.seen))))
 
+-- No body stands in extents, before or afterwards, and no cell that was met has an extent with a key that counts as
+-- changed.
+pub record MeetsNoExtent (c : Command) (r : Reach) : Type 0 where
+  pub kind : r.in_extents ≡ false
+  pub body : IsInLeaves (body_on c (pairs_of r.seen) r.in_extents)
+  pub none : (x : CellSeen) (s : Span) (k : ℕ) → Contains r.met x → Contains (node_of x).spans s → InSpan s k
+      → is_in (changes_on c (pairs_of r.seen) r.in_extents) k ≡ false
+
 -- The cells that were met are a part of a tree with all that the command touches; those that it reads and writes, what
--- was seen, where the body that it changes stood, whether all that it changes lies in leaves, and how many new cells come
--- at most. All are in order, each once, and
--- each is a cell by itself. The keys that count as changed are keys of a tree, and the body has such sizes as a file
+-- was seen, where the body that it changes stood, whether all that it changes lies in leaves (so it is told just where no
+-- extent is met), and how many new cells come at most. All are in order, each once, and each is a cell by itself. The keys that count as changed are keys of a tree, and the body has such sizes as a file
 -- may have.
 pub record IsReach (p : PoolState) (root : Root) (c : Command) (r : Reach) : Type 0 where
   pub answer : IsReachOf root c r.met r.reads r.writes r.root
   pub seen : answer.seen ≡ pairs_of r.seen
   pub kind : answer.in_extents ≡ r.in_extents
   pub leaves : r.in_leaves ≡ true → LiesInLeaves c r
+  pub told : MeetsNoExtent c r → r.in_leaves ≡ true
   pub sizes : HasFileSizes (body_on c (pairs_of r.seen) r.in_extents)
   pub keys : (k : ℕ) → is_in (changes_on c (pairs_of r.seen) r.in_extents) k ≡ true
       → (least ≤ k) × (k < top)

@@ -10,3 +10,4 @@ pub use Rattle.r4_extent_counts.specs as r4_extent_counts
 pub use Rattle.r4_extent_touching.specs as r4_extent_touching
 pub use Rattle.r4_reaching.specs as r4_reaching
 pub use Rattle.r4_reaching.specs.r4_spared
+pub use Rattle.r4_reaching.specs.r4_touching

@@ -1,13 +1,13 @@
 -- A command whose edits are known, and the cells that were met for it, bodies in extents included (docs/volume.md,
 -- "Reach"). A key is its rank.
-use Rattle.std.specs.Prelude.{◌≡◌, ℕ, ◌+◌, ◌<◌, ◌≤◌, ◌||◌, Bool, true, false, List, [], Contains, Option, Some}
+use Rattle.std.specs.Prelude.{◌≡◌, ◌↔◌, ℕ, ◌+◌, ◌<◌, ◌≤◌, ◌||◌, Bool, true, false, List, [], Contains, Option, Some}
 use Rattle.std.specs.Prelude.{length, map, nat_lt, sum_by}
 use Rattle.std.specs.Arc.{arc_value}
 use Rattle.std.specs.Option.{option_map}
 use Rattle.r4_base.specs.Key.{least, top}
 use Rattle.r4_base.specs.Tree.{Span}
-use Rattle.r4_cell.specs.Seen.{CellSeen, node_of}
-use Rattle.r4_cell.specs.declared.change.Root.{Root}
+use Rattle.r4_reaching.specs.r4_cell.Seen.{CellSeen, node_of}
+use Rattle.r4_reaching.specs.r4_cell.declared.change.Root.{Root}
 use Rattle.r4_content.specs.Edited.{Intervals, is_in}
 use Rattle.r4_content.specs.Held.{edits_of, pairs_of}
 use Rattle.r4_content.specs.declared.command.Command.{Command}
@@ -16,12 +16,12 @@ use Rattle.r4_content.specs.declared.seen.Seen.{Seen}
 use Rattle.r4_extent_touching.specs.Holding.{AreHeld, AreLeftMet}
 use Rattle.r4_extent_touching.specs.r4_marking.Marks.{ask_seen}
 use Rattle.r4_extent_touching.specs.r4_marking.declared.marking.Marks.{Marks}
-use Rattle.r4_reach.specs.Leaves.{rise_of}
-use Rattle.r4_reach.specs.Needs.{demand_of, going_of, is_met}
-use Rattle.r4_reach.specs.Touched.{Body, IsKindIn, body_on, changes_on, edits_on, kind_reads}
+use Rattle.r4_reaching.specs.r4_reach.Leaves.{rise_of}
+use Rattle.r4_reaching.specs.r4_reach.Needs.{demand_of, going_of, is_met}
+use Rattle.r4_reaching.specs.r4_reach.Touched.{Body, IsKindIn, body_on, changes_on, edits_on, kind_reads}
 use Rattle.r4_reaching.specs.Answers.{IsAllSeen}
 use Rattle.r4_reaching.specs.r4_bodies.r4_leaf_demands.Leaves.{IsInLeaves}
-use Rattle.r4_search.specs.Pool.{PoolState}
+use Rattle.r4_reaching.specs.r4_search.Pool.{PoolState}
 use Rattle.r4_reaching.specs.r4_seeing.Looking.{met_cells}
 use Rattle.r4_extent_counts.specs.Coming.{twig_cells}
 use Rattle.r4_extent_reaching.specs.Standing.{HasFileSizes}
@@ -85,6 +85,6 @@ pub record IsFrom (root : Root) (seen : Seen) (n : Planned) (met : List CellSeen
     pub root_is : r.root ≡ option_map (λ a. root) m.rises
     pub seen_is : r.seen ≡ seen
     pub kind_is : r.in_extents ≡ n.in_extents
-    pub leaves : r.in_leaves ≡ true → IsOfLeaves n.body n.in_extents n.changes met
+    pub leaves : (r.in_leaves ≡ true) ↔ IsOfLeaves n.body n.in_extents n.changes met
     pub most : r.most ≡ length m.writes.items + m.more + rise_of (option_map ask_seen m.rises)
         + sum_by (twig_cells n.body (edits_of n.edits)) (map (λ c. arc_value c) m.writes.items)

@@ -1,6 +1,6 @@
 -- The sizes of a body that changes, and where it stood (docs/volume.md, "Reach").
 use Rattle.std.specs.Prelude.{◌^◌, ◌<◌, ◌≤◌, Option, None, Some}
-use Rattle.r4_reach.specs.Touched.{Body}
+use Rattle.r4_reaching.specs.r4_reach.Touched.{Body}
 
 -- It has no more bytes, before and after, than a file may have.
 abbrev pub HasFileSizes : Option Body → Type 0

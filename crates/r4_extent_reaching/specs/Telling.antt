@@ -2,9 +2,9 @@
 -- "Reach"). A key is its rank.
 use Rattle.std.specs.Prelude.{◌≡◌, ◌⊎◌, ℕ, Bool, false, Some}
 use Rattle.r4_base.specs.Tree.{Holds}
-use Rattle.r4_cell.specs.Seen.{CellSeen, node_of}
-use Rattle.r4_reach.specs.Touched.{has_unit}
-use Rattle.r4_search.specs.Pool.{PoolState}
+use Rattle.r4_reaching.specs.r4_cell.Seen.{CellSeen, node_of}
+use Rattle.r4_reaching.specs.r4_reach.Touched.{has_unit}
+use Rattle.r4_reaching.specs.r4_search.Pool.{PoolState}
 use Rattle.r4_reaching.specs.r4_touching.Touching.{IsInExtent, IsInLeaf}
 
 -- The key is in the range of an extent, and a cell that was met holds it: whether that has a unit there.

@@ -3,8 +3,8 @@ use Rattle.std.specs.Prelude.{◌≡◌, ℕ, ◌+◌, ◌^◌, ◌<◌, ◌≤�
 use Rattle.r4_base.specs.Key.{key_of_rank, least, top}
 use Rattle.r4_base.specs.Volume.{object_of}
 use Rattle.r4_content.specs.Edited.{Intervals, is_in}
-use Rattle.r4_reach.specs.Reach.{is_body}
-use Rattle.r4_reach.specs.Touched.{Body, first_byte}
+use Rattle.r4_reaching.specs.r4_reach.Reach.{is_body}
+use Rattle.r4_reaching.specs.r4_reach.Touched.{Body, first_byte}
 
 -- They are keys of a tree, the body's first one among them; and an interval that begins at a key of a body ends within
 -- the file's.

@@ -1,7 +1,7 @@
 //! What a command reads and writes of the cells of a tree, bodies in extents included.
 
-use r4_cell::{Cells, Root};
 use r4_content::Seen;
+use r4_reaching::{Cells, Root};
 
 /// What a command reads and writes, wherever the body that it changes stands (docs/volume.md, "Reach").
 #[derive(Drop)]

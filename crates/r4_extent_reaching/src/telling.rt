@@ -3,17 +3,15 @@
 ghost use Rattle.std.specs.Prelude.{◌≡◌, ◌+◌, ◌<◌, ◌≤◌, ℕ, IfErr, IfOk, length, true};
 ghost use Rattle.r4_base.specs.Key.{least, rank, top};
 ghost use Rattle.r4_content.specs.Edited.{is_between};
-ghost use Rattle.r4_search.specs.Path.{root_name};
-ghost use Rattle.r4_search.specs.Pool.{IsKnown, LeavesDevice};
+ghost use Rattle.r4_reaching.specs.r4_search.Path.{root_name};
+ghost use Rattle.r4_reaching.specs.r4_search.Pool.{IsKnown, LeavesDevice};
 ghost use Rattle.r4_reaching.specs.r4_touching.Touching.{StopsFor, Touches};
 ghost use Rattle.r4_extent_reaching.specs.Telling.{IsKindTold};
 
 use r4_base::Key;
-use r4_cell::Root;
 use r4_content::Interval;
-use r4_reaching::touch;
-use r4_search::{FetchFault, Pool};
-use r4_sight::{key_after, stretch_from};
+use r4_extent_touching::{key_after, stretch_from};
+use r4_reaching::{FetchFault, Pool, Root, touch};
 use std::alloc::Global;
 
 /// Whether a body stands in extents, told by a key of its: not where the key lies in a leaf; and in the range of an

@@ -7,12 +7,12 @@ use Rattle.std.proofs.lemmas.List.Elements.{Contains-append_cases, Contains-appe
 use Rattle.r4_base.specs.Cell.{bytes_from, cell_of}
 use Rattle.r4_base.specs.Key.{rank}
 use Rattle.r4_base.specs.Value.{Byte, Value}
-use Rattle.r4_cell.specs.Seen.{CellSeen, node_of}
-use Rattle.r4_leaf.specs.Units.{is_between}
-use Rattle.r4_patch.proofs.Members.{cases, here, later, none}
-use Rattle.r4_path.specs.Levels.{units_of_cells}
-use Rattle.r4_work.specs.Order.{HasKey}
-use Rattle.r4_work.proofs.UnitMembers.{between}
+use Rattle.r4_twig_work.specs.r4_cell.Seen.{CellSeen, node_of}
+use Rattle.r4_twig_work.specs.r4_leaf.Units.{is_between}
+use Rattle.r4_twig_work.proofs.r4_patch.Members.{cases, here, later, none}
+use Rattle.r4_twig_work.specs.r4_path.Levels.{units_of_cells}
+use Rattle.r4_twig_work.specs.r4_work.Order.{HasKey}
+use Rattle.r4_twig_work.proofs.r4_work.UnitMembers.{between}
 
 -- the byte at a key
 abbrev pub IsByteAt : (lo : ℕ) → List ℕ → (key : ℕ) → Value → Type 0

@@ -8,17 +8,17 @@ use Rattle.r4_base.specs.Key.{rank}
 use Rattle.r4_base.specs.Tree.{Root, Store}
 use Rattle.r4_base.specs.Value.{Byte, Value}
 use Rattle.r4_base.specs.declared.key.Key.{Key}
-use Rattle.r4_cell.specs.Patch.{HaveNames}
-use Rattle.r4_cell.specs.Seen.{CellSeen, node_of}
-use Rattle.r4_cell.specs.declared.change.Fresh.{Fresh}
+use Rattle.r4_twig_work.specs.r4_cell.Patch.{HaveNames}
+use Rattle.r4_twig_work.specs.r4_cell.Seen.{CellSeen, node_of}
+use Rattle.r4_twig_work.specs.r4_cell.declared.change.Fresh.{Fresh}
 use Rattle.r4_content.specs.Edited.{Edits}
 use Rattle.r4_extent_blocks.specs.Setting.{IsOverwritten, byte_set}
-use Rattle.r4_leaf.specs.Units.{is_between}
-use Rattle.r4_patch.proofs.Members.{cases, here, later, none}
+use Rattle.r4_twig_work.specs.r4_leaf.Units.{is_between}
+use Rattle.r4_twig_work.proofs.r4_patch.Members.{cases, here, later, none}
 use Rattle.r4_twig_work.specs.Renewing.{IsRenewable, IsRenewal, IsRenewed, Renewal, Renews, news_of, olds_of}
-use Rattle.r4_work.specs.Order.{HasKey}
-use Rattle.r4_work.specs.declared.working.WorkingSet.{WorkingSet}
-use Rattle.r4_work.proofs.InPlace.{standing_is}
+use Rattle.r4_twig_work.specs.r4_work.Order.{HasKey}
+use Rattle.r4_twig_work.specs.r4_work.declared.working.WorkingSet.{WorkingSet}
+use Rattle.r4_twig_work.proofs.r4_work.InPlace.{standing_is}
 use Rattle.r4_extent_renew.specs.Overwriting.{AreOverwritten, AreStandingBlocks, IsStandingBlock, in_blocks, is_set_in, value_set}
 use Rattle.r4_extent_renew.proofs.BlockUnits.{IsByteAt, block_units, bytes_members, cells_from, cells_to, in_one, one_in}
 

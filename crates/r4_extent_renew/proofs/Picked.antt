@@ -6,16 +6,16 @@ use Rattle.std.proofs.lemmas.Bool.{eq-eqb, eqb-true}
 use Rattle.r4_base.specs.Key.{rank}
 use Rattle.r4_base.specs.Tree.{Root, Store}
 use Rattle.r4_base.specs.Value.{Value}
-use Rattle.r4_cell.specs.Seen.{CellSeen}
-use Rattle.r4_cell.specs.declared.change.Fresh.{Fresh}
+use Rattle.r4_twig_work.specs.r4_cell.Seen.{CellSeen}
+use Rattle.r4_twig_work.specs.r4_cell.declared.change.Fresh.{Fresh}
 use Rattle.r4_content.specs.Edited.{Edits}
 use Rattle.r4_extent_blocks.specs.Setting.{byte_set}
-use Rattle.r4_leaf.specs.Units.{is_between}
-use Rattle.r4_patch.specs.Effect.{Placed}
-use Rattle.r4_patch.proofs.Members.{Distinct, cases, distinct, have_names, here, later, none}
-use Rattle.r4_work.proofs.UnitMembers.{between}
-use Rattle.r4_work.specs.Remaking.{Changes}
-use Rattle.r4_work.specs.declared.working.WorkingSet.{WorkingSet}
+use Rattle.r4_twig_work.specs.r4_leaf.Units.{is_between}
+use Rattle.r4_twig_work.specs.r4_patch.Effect.{Placed}
+use Rattle.r4_twig_work.proofs.r4_patch.Members.{Distinct, cases, distinct, have_names, here, later, none}
+use Rattle.r4_twig_work.proofs.r4_work.UnitMembers.{between}
+use Rattle.r4_twig_work.specs.r4_work.Remaking.{Changes}
+use Rattle.r4_twig_work.specs.r4_work.declared.working.WorkingSet.{WorkingSet}
 use Rattle.r4_extent_renew.specs.Overwriting.{AreSetAmong, AreStandingBlocks, AreStandingCells, IsLeftAlone, blocks_among, in_blocks, is_set_in}
 
 pub of_cells : (e : Edits) (cs bs : List CellSeen) → AreSetAmong e cs bs → (c : CellSeen) → Contains bs c → Contains cs c × (c.level ≡ 0)

@@ -5,20 +5,20 @@ use Rattle.std.specs.Option.{option_map, unwrap_or}
 use Rattle.std.proofs.lemmas.List.Sums.{sum_by-cons}
 use Rattle.r4_base.specs.Tree.{Node, Root, Store}
 use Rattle.r4_base.specs.Value.{Value}
-use Rattle.r4_cell.specs.Patch.{by_name, place, root_of_pair}
-use Rattle.r4_cell.specs.Seen.{CellSeen}
-use Rattle.r4_cell.specs.declared.change.Fresh.{Fresh}
+use Rattle.r4_twig_work.specs.r4_cell.Patch.{by_name, place, root_of_pair}
+use Rattle.r4_twig_work.specs.r4_cell.Seen.{CellSeen}
+use Rattle.r4_twig_work.specs.r4_cell.declared.change.Fresh.{Fresh}
 use Rattle.r4_content.specs.Edited.{Edits}
-use Rattle.r4_measure.specs.Budget.{AreSeen, Budget, IsBudget, cells_from}
-use Rattle.r4_measure.specs.Measured.{IsMeasured}
-use Rattle.r4_measure.proofs.Placed.{placed_few, placed_measured}
-use Rattle.r4_patch.specs.Joining.{patch_of_change}
-use Rattle.r4_patch.proofs.Members.{cases, found, here, later, none}
-use Rattle.r4_patch.proofs.Placed.{over_from}
-use Rattle.r4_path.proofs.Rising.{level_is}
+use Rattle.r4_twig_work.specs.r4_measure.Budget.{AreSeen, Budget, IsBudget, cells_from}
+use Rattle.r4_twig_work.specs.r4_measure.Measured.{IsMeasured}
+use Rattle.r4_twig_work.proofs.r4_measure.Placed.{placed_few, placed_measured}
+use Rattle.r4_twig_work.specs.r4_patch.Joining.{patch_of_change}
+use Rattle.r4_twig_work.proofs.r4_patch.Members.{cases, found, here, later, none}
+use Rattle.r4_twig_work.proofs.r4_patch.Placed.{over_from}
+use Rattle.r4_twig_work.proofs.r4_path.Rising.{level_is}
 use Rattle.r4_twig_work.specs.Renewing.{IsRenewed, renewing}
-use Rattle.r4_work.specs.Working.{now_of, root_of, standing}
-use Rattle.r4_work.specs.declared.working.WorkingSet.{WorkingSet}
+use Rattle.r4_twig_work.specs.r4_work.Working.{now_of, root_of, standing}
+use Rattle.r4_twig_work.specs.r4_work.declared.working.WorkingSet.{WorkingSet}
 use Rattle.r4_extent_renew.specs.Overwriting.{AreOverwritten, IsStandingBlock, StaysMeasured}
 
 news_low : (e : Edits) (olds news : List CellSeen) → AreOverwritten e olds news → (c : CellSeen) → Contains news c → c.level ≡ 0

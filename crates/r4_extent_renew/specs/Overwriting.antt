@@ -6,17 +6,17 @@ use Rattle.std.specs.Option.{is_some, option_map}
 use Rattle.r4_base.specs.Key.{rank}
 use Rattle.r4_base.specs.Tree.{Root, Store}
 use Rattle.r4_base.specs.Value.{Byte, Value}
-use Rattle.r4_cell.specs.Patch.{HaveNames}
-use Rattle.r4_cell.specs.Seen.{CellSeen}
-use Rattle.r4_cell.specs.declared.change.Fresh.{Fresh}
+use Rattle.r4_twig_work.specs.r4_cell.Patch.{HaveNames}
+use Rattle.r4_twig_work.specs.r4_cell.Seen.{CellSeen}
+use Rattle.r4_twig_work.specs.r4_cell.declared.change.Fresh.{Fresh}
 use Rattle.r4_content.specs.Edited.{Edits}
 use Rattle.r4_extent_blocks.specs.Setting.{IsOverwritten, byte_set}
-use Rattle.r4_leaf.specs.Units.{is_between}
-use Rattle.r4_measure.specs.Budget.{Budget, most_from}
-use Rattle.r4_measure.specs.Measured.{IsMeasured}
-use Rattle.r4_patch.specs.Effect.{Placed, in_extent}
-use Rattle.r4_work.specs.Working.{IsWorking, root_of, standing}
-use Rattle.r4_work.specs.declared.working.WorkingSet.{WorkingSet}
+use Rattle.r4_twig_work.specs.r4_leaf.Units.{is_between}
+use Rattle.r4_twig_work.specs.r4_measure.Budget.{Budget, most_from}
+use Rattle.r4_twig_work.specs.r4_measure.Measured.{IsMeasured}
+use Rattle.r4_twig_work.specs.r4_patch.Effect.{Placed, in_extent}
+use Rattle.r4_twig_work.specs.r4_work.Working.{IsWorking, root_of, standing}
+use Rattle.r4_twig_work.specs.r4_work.declared.working.WorkingSet.{WorkingSet}
 
 -- The cell is a data block of 4096 bytes that stands in the set.
 pub record IsStandingBlock (w : WorkingSet) (c : CellSeen) : Type 0 where

@@ -3,4 +3,5 @@
 
 mod renewing;
 
+pub use r4_extent_blocks::{ItemView, Root, pointer};
 pub use renewing::{overwrite, overwrite_among};

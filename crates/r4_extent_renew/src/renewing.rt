@@ -4,25 +4,22 @@ ghost use Rattle.std.specs.Prelude.{◌≡◌, ◌++◌, ◌∷◌, [], List, Co
 ghost use Rattle.std.specs.Arc.{arc_value};
 ghost use Rattle.r4_base.specs.Tree.{Root as TreeRoot, Store};
 ghost use Rattle.r4_base.specs.Value.{Value};
-ghost use Rattle.r4_cell.specs.Seen.{CellSeen};
-ghost use Rattle.r4_cell.specs.declared.change.Fresh.{Fresh as FreshSeen};
+ghost use Rattle.r4_twig_work.specs.r4_cell.Seen.{CellSeen};
+ghost use Rattle.r4_twig_work.specs.r4_cell.declared.change.Fresh.{Fresh as FreshSeen};
 ghost use Rattle.r4_content.specs.Held.{edits_of};
-ghost use Rattle.r4_work.specs.Remaking.{Changes};
-ghost use Rattle.r4_work.specs.Working.{IsWorking};
+ghost use Rattle.r4_twig_work.specs.r4_work.Remaking.{Changes};
+ghost use Rattle.r4_twig_work.specs.r4_work.Working.{IsWorking};
 ghost use Rattle.r4_extent_renew.specs.Overwriting.{AreOverwritten, AreStandingBlocks, bytes_set};
 ghost use Rattle.r4_extent_renew.specs.Overwriting.{AreSetAmong, AreStandingCells, blocks_among};
 ghost use Rattle.r4_extent_renew.specs.Overwriting.{StaysMeasured, is_set_in};
-ghost use Rattle.r4_measure.specs.Budget.{Budget};
-ghost use Rattle.r4_measure.specs.Measured.{IsMeasured};
+ghost use Rattle.r4_twig_work.specs.r4_measure.Budget.{Budget};
+ghost use Rattle.r4_twig_work.specs.r4_measure.Measured.{IsMeasured};
 ghost use Rattle.r4_twig_work.specs.Renewing.{IsRenewed, StandAsBefore};
 
 use r4_base::Memory;
-use r4_cell::Cell;
 use r4_content::Edits;
-use r4_extent_blocks::{overwritten, sets_bytes};
-use r4_path::add;
-use r4_twig_work::renew;
-use r4_work::WorkingSet;
+use r4_extent_blocks::{Cell, overwritten, sets_bytes};
+use r4_twig_work::{WorkingSet, add, renew};
 use std::alloc::Global;
 use std::sync::Arc;
 

@@ -17,18 +17,18 @@ use Rattle.r4_extent_growth.proofs.Found.{leaf_room, lies_found, told_in}
 use Rattle.r4_extent_growth.proofs.Turns.{each}
 use Rattle.r4_extent_growth.specs.Coming.{SufficesFor, coming_beside}
 use Rattle.r4_extent_growth.specs.Lying.{has_room, have_room, lie_in_leaves}
-use Rattle.r4_extent_loss.proofs.LostPieces.{gone_high, gone_low}
-use Rattle.r4_extent_loss.specs.Losing.{IsLosing, gone_from, gone_to}
-use Rattle.r4_measure.proofs.r4_path.Rising.{hi_is, in_node, level_is, lo_is}
-use Rattle.r4_measure.proofs.r4_work.UnitMembers.{between}
-use Rattle.r4_measure.specs.r4_path.Steps.{IsNameOf}
-use Rattle.r4_measure.specs.Budget.{AreUnplaced, Budget}
-use Rattle.r4_measure.specs.Grafting.{IsQuietBelow}
-use Rattle.r4_measure.specs.r4_cell.Patch.{HaveNames}
-use Rattle.r4_measure.specs.r4_cell.Seen.{CellSeen, node_of}
-use Rattle.r4_measure.specs.r4_cell.declared.change.Fresh.{Fresh}
-use Rattle.r4_measure.specs.r4_reach.Touched.{Body}
-use Rattle.r4_measure.specs.r4_work.Working.{AreCellsIn}
+use Rattle.r4_extent_growth.proofs.r4_extent_loss.LostPieces.{gone_high, gone_low}
+use Rattle.r4_extent_growth.specs.r4_extent_loss.Losing.{IsLosing, gone_from, gone_to}
+use Rattle.r4_extent_growth.proofs.r4_measure.r4_path.Rising.{hi_is, in_node, level_is, lo_is}
+use Rattle.r4_extent_growth.proofs.r4_measure.r4_work.UnitMembers.{between}
+use Rattle.r4_extent_growth.specs.r4_measure.r4_path.Steps.{IsNameOf}
+use Rattle.r4_extent_growth.specs.r4_measure.Budget.{AreUnplaced, Budget}
+use Rattle.r4_extent_growth.specs.r4_measure.Grafting.{IsQuietBelow}
+use Rattle.r4_extent_growth.specs.r4_measure.r4_cell.Patch.{HaveNames}
+use Rattle.r4_extent_growth.specs.r4_measure.r4_cell.Seen.{CellSeen, node_of}
+use Rattle.r4_extent_growth.specs.r4_measure.r4_cell.declared.change.Fresh.{Fresh}
+use Rattle.r4_extent_growth.specs.r4_measure.r4_reach.Touched.{Body}
+use Rattle.r4_extent_growth.specs.r4_measure.r4_work.Working.{AreCellsIn}
 use Rattle.r4_extent_shrink.specs.Going.{HasNumber, IsKnown, MayLeave, may_leave}
 use Rattle.r4_extent_shrink.specs.Shrinking.{twigs_losing}
 use Rattle.r4_extent_shrink.specs.Shrink.{MayLoseAll, has_numbers}

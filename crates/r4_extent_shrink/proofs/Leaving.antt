@@ -10,16 +10,16 @@ use Rattle.r4_extent_growth.specs.r4_extent_change.Among.{is_losing}
 use Rattle.r4_extent_growth.proofs.Found.{some_of}
 use Rattle.r4_extent_growth.proofs.Turns.{each, off, part_ends, second}
 use Rattle.r4_extent_growth.specs.Turning.{ends_by}
-use Rattle.r4_extent_loss.specs.Losing.{gone_from, gone_to}
-use Rattle.r4_measure.proofs.r4_work.Remade.{or_true}
-use Rattle.r4_measure.specs.r4_branch.Pieces.{open_end, part_end, piece_end}
-use Rattle.r4_measure.specs.r4_branch.declared.piece.TwigPart.{TwigPart}
-use Rattle.r4_measure.specs.r4_branch.declared.piece.TwigPart.TheVariants.{Blocks, Pointer}
-use Rattle.r4_measure.specs.r4_branch.declared.piece.TwigPiece.{TwigPiece}
-use Rattle.r4_measure.specs.r4_cell.Seen.{CellSeen, node_of}
-use Rattle.r4_measure.specs.r4_leaf.Units.{is_between}
-use Rattle.r4_measure.specs.r4_path.TwigPieces.{twig_pieces}
-use Rattle.r4_measure.specs.r4_reach.Touched.{Body}
+use Rattle.r4_extent_growth.specs.r4_extent_loss.Losing.{gone_from, gone_to}
+use Rattle.r4_extent_growth.proofs.r4_measure.r4_work.Remade.{or_true}
+use Rattle.r4_extent_growth.specs.r4_measure.r4_branch.Pieces.{open_end, part_end, piece_end}
+use Rattle.r4_extent_growth.specs.r4_measure.r4_branch.declared.piece.TwigPart.{TwigPart}
+use Rattle.r4_extent_growth.specs.r4_measure.r4_branch.declared.piece.TwigPart.TheVariants.{Blocks, Pointer}
+use Rattle.r4_extent_growth.specs.r4_measure.r4_branch.declared.piece.TwigPiece.{TwigPiece}
+use Rattle.r4_extent_growth.specs.r4_measure.r4_cell.Seen.{CellSeen, node_of}
+use Rattle.r4_extent_growth.specs.r4_measure.r4_leaf.Units.{is_between}
+use Rattle.r4_extent_growth.specs.r4_measure.r4_path.TwigPieces.{twig_pieces}
+use Rattle.r4_extent_growth.specs.r4_measure.r4_reach.Touched.{Body}
 use Rattle.r4_extent_shrink.specs.Going.{HasNumber, IsKnown, MayLeave, block_suits, has_key, has_number, is_behind, is_border, leaf_suits, may_leave, name_suits, pieces_suit}
 
 border_is : (k : ℕ) (p : TwigPiece) → is_border k p ≡ true → rank p.key < k → k < piece_end p → (n : ℕ) × (k ≡ rank p.key + 4096 * n)

@@ -4,12 +4,12 @@ use Rattle.std.specs.Prelude.{◌&&◌, ◌||◌, if◌then◌else◌, nat_lt, n
 use Rattle.std.proofs.lemmas.Grind.{common_steps}
 use Rattle.r4_base.specs.declared.key.Key.{Key}
 use Rattle.r4_content.specs.Edited.{Edits, Intervals, put_keys}
-use Rattle.r4_extent_build.specs.Growing.{end_after, end_before}
-use Rattle.r4_extent_demands.specs.Pieces.{gets_among}
-use Rattle.r4_extent_demands.specs.Sizes.{IsFirstKey, IsSizedBody}
-use Rattle.r4_extent_loss.specs.Losing.{IsLosing}
-use Rattle.r4_measure.specs.r4_reach.Needs.{is_met, meets}
-use Rattle.r4_measure.specs.r4_reach.Touched.{Body, first_byte, going, is_spread, turns_out}
+use Rattle.r4_extent_growth.specs.r4_extent_build.Growing.{end_after, end_before}
+use Rattle.r4_extent_growth.specs.r4_extent_demands.Pieces.{gets_among}
+use Rattle.r4_extent_growth.specs.r4_extent_demands.Sizes.{IsFirstKey, IsSizedBody}
+use Rattle.r4_extent_growth.specs.r4_extent_loss.Losing.{IsLosing}
+use Rattle.r4_extent_growth.specs.r4_measure.r4_reach.Needs.{is_met, meets}
+use Rattle.r4_extent_growth.specs.r4_measure.r4_reach.Touched.{Body, first_byte, going, is_spread, turns_out}
 
 pub left_off : (x y : Bool) → (x || y) ≡ false → x ≡ false
 left_off true y h = absurd cc

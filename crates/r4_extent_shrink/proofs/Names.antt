@@ -12,12 +12,12 @@ use Rattle.r4_base.specs.declared.items.Unit.{Unit as ExtentUnit}
 use Rattle.r4_base.specs.declared.key.Key.{Key}
 use Rattle.r4_extent_growth.proofs.Turns.{part_ends}
 use Rattle.r4_extent_growth.specs.Turning.{ends_by}
-use Rattle.r4_measure.proofs.r4_work.Remade.{or_true}
-use Rattle.r4_measure.specs.r4_branch.Pieces.{names_of, next_of, part_names}
-use Rattle.r4_measure.specs.r4_branch.declared.piece.TwigPart.TheVariants.{Blocks}
-use Rattle.r4_measure.specs.r4_branch.declared.piece.TwigPiece.{TwigPiece}
-use Rattle.r4_measure.specs.r4_cell.Seen.{CellSeen}
-use Rattle.r4_measure.specs.r4_leaf.Units.{is_between}
+use Rattle.r4_extent_growth.proofs.r4_measure.r4_work.Remade.{or_true}
+use Rattle.r4_extent_growth.specs.r4_measure.r4_branch.Pieces.{names_of, next_of, part_names}
+use Rattle.r4_extent_growth.specs.r4_measure.r4_branch.declared.piece.TwigPart.TheVariants.{Blocks}
+use Rattle.r4_extent_growth.specs.r4_measure.r4_branch.declared.piece.TwigPiece.{TwigPiece}
+use Rattle.r4_extent_growth.specs.r4_measure.r4_cell.Seen.{CellSeen}
+use Rattle.r4_extent_growth.specs.r4_measure.r4_leaf.Units.{is_between}
 use Rattle.r4_extent_shrink.specs.Going.{block_suits, has_number, name_suits}
 
 -- how far a key is behind a border

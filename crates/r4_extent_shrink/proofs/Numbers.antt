@@ -6,17 +6,17 @@ use Rattle.std.proofs.lemmas.List.Sums.{sum_by-cons}
 use Rattle.r4_base.specs.Key.{rank}
 use Rattle.r4_base.specs.declared.key.Key.{Key}
 use Rattle.r4_content.specs.Edited.{Edits}
-use Rattle.r4_measure.specs.r4_edit.CutBlocks.{next_key}
-use Rattle.r4_extent_build.specs.r4_twig_turns.Turning.{TwigTurn, numbers_for}
+use Rattle.r4_extent_growth.specs.r4_measure.r4_edit.CutBlocks.{next_key}
+use Rattle.r4_extent_growth.specs.r4_extent_build.r4_twig_turns.Turning.{TwigTurn, numbers_for}
 use Rattle.r4_extent_growth.specs.r4_extent_change.Among.{is_losing, loss_among, losing_twigs}
 use Rattle.r4_extent_growth.specs.r4_extent_change.Losing.{numbers_lost}
-use Rattle.r4_extent_loss.specs.Losing.{Loss, leaf_at, losing_turn, numbers_taken, taken_block, taken_from}
-use Rattle.r4_extent_loss.specs.LosingEach.{losing_turns}
-use Rattle.r4_measure.specs.r4_branch.declared.piece.TwigPiece.{TwigPiece}
-use Rattle.r4_measure.specs.r4_cell.Seen.{CellSeen, node_of}
-use Rattle.r4_measure.specs.r4_cell.declared.change.Fresh.{Fresh}
-use Rattle.r4_measure.specs.r4_reach.Needs.{pieces_after}
-use Rattle.r4_measure.specs.r4_reach.Touched.{Body}
+use Rattle.r4_extent_growth.specs.r4_extent_loss.Losing.{Loss, leaf_at, losing_turn, numbers_taken, taken_block, taken_from}
+use Rattle.r4_extent_growth.specs.r4_extent_loss.LosingEach.{losing_turns}
+use Rattle.r4_extent_growth.specs.r4_measure.r4_branch.declared.piece.TwigPiece.{TwigPiece}
+use Rattle.r4_extent_growth.specs.r4_measure.r4_cell.Seen.{CellSeen, node_of}
+use Rattle.r4_extent_growth.specs.r4_measure.r4_cell.declared.change.Fresh.{Fresh}
+use Rattle.r4_extent_growth.specs.r4_measure.r4_reach.Needs.{pieces_after}
+use Rattle.r4_extent_growth.specs.r4_measure.r4_reach.Touched.{Body}
 use Rattle.r4_extent_shrink.specs.Shrink.{has_numbers}
 
 one_leaf : (key id : ℕ) (hi : Key) (block : List ℕ) (ps : List TwigPiece) → length (leaf_at key id hi block ps) ≤ 1

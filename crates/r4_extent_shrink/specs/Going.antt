@@ -8,15 +8,15 @@ use Rattle.r4_base.specs.Node.{mkfs_id_of}
 use Rattle.r4_base.specs.Tree.{Name}
 use Rattle.r4_extent_growth.specs.r4_extent_change.Among.{is_losing}
 use Rattle.r4_extent_growth.specs.Turning.{ends_by}
-use Rattle.r4_extent_loss.specs.Losing.{gone_from, gone_to, in_gone}
-use Rattle.r4_measure.specs.r4_branch.Pieces.{open_end, piece_end}
-use Rattle.r4_measure.specs.r4_branch.declared.piece.TwigPiece.{TwigPiece}
-use Rattle.r4_measure.specs.r4_cell.Seen.{CellSeen, node_of}
-use Rattle.r4_measure.specs.r4_leaf.Units.{is_between}
-use Rattle.r4_measure.specs.r4_path.Sharing.{IsSound}
-use Rattle.r4_measure.specs.r4_path.TwigPieces.{ArePiecesOf, twig_pieces}
-use Rattle.r4_measure.specs.r4_path.r4_graft.Splices.{IsBorder}
-use Rattle.r4_measure.specs.r4_reach.Touched.{Body}
+use Rattle.r4_extent_growth.specs.r4_extent_loss.Losing.{gone_from, gone_to, in_gone}
+use Rattle.r4_extent_growth.specs.r4_measure.r4_branch.Pieces.{open_end, piece_end}
+use Rattle.r4_extent_growth.specs.r4_measure.r4_branch.declared.piece.TwigPiece.{TwigPiece}
+use Rattle.r4_extent_growth.specs.r4_measure.r4_cell.Seen.{CellSeen, node_of}
+use Rattle.r4_extent_growth.specs.r4_measure.r4_leaf.Units.{is_between}
+use Rattle.r4_extent_growth.specs.r4_measure.r4_path.Sharing.{IsSound}
+use Rattle.r4_extent_growth.specs.r4_measure.r4_path.TwigPieces.{ArePiecesOf, twig_pieces}
+use Rattle.r4_extent_growth.specs.r4_measure.r4_path.r4_graft.Splices.{IsBorder}
+use Rattle.r4_extent_growth.specs.r4_measure.r4_reach.Touched.{Body}
 
 -- ---- pieces
 

@@ -6,21 +6,21 @@ use Rattle.std.specs.Prelude.{List, Contains, None, length}
 use Rattle.std.specs.List.{list_all}
 use Rattle.r4_base.specs.Key.{rank}
 use Rattle.r4_base.specs.declared.key.Key.{Key}
-use Rattle.r4_build.specs.Building.{LiesInLeaf}
+use Rattle.r4_extent_growth.specs.r4_build.Building.{LiesInLeaf}
 use Rattle.r4_content.specs.Edited.{Edits, changed, is_in}
-use Rattle.r4_extent_build.specs.Growing.{end_after, end_before}
+use Rattle.r4_extent_growth.specs.r4_extent_build.Growing.{end_after, end_before}
 use Rattle.r4_extent_growth.specs.r4_extent_change.Among.{losing_twigs}
 use Rattle.r4_extent_growth.specs.r4_extent_change.Beside.{without_bytes}
 use Rattle.r4_extent_growth.specs.r4_extent_change.Losing.{numbers_lost}
-use Rattle.r4_extent_demands.specs.Pieces.{gets_among}
+use Rattle.r4_extent_growth.specs.r4_extent_demands.Pieces.{gets_among}
 use Rattle.r4_extent_growth.specs.Lying.{have_room, lie_in_leaves}
-use Rattle.r4_extent_loss.specs.Losing.{IsLosing}
-use Rattle.r4_measure.specs.r4_cell.Seen.{CellSeen, node_of}
-use Rattle.r4_measure.specs.r4_cell.declared.change.Fresh.{Fresh}
-use Rattle.r4_measure.specs.r4_leaf.Units.{leaf_bytes}
-use Rattle.r4_measure.specs.r4_path.Sharing.{IsSound}
-use Rattle.r4_measure.specs.r4_reach.Needs.{is_met, units_after}
-use Rattle.r4_measure.specs.r4_reach.Touched.{Body, first_byte}
+use Rattle.r4_extent_growth.specs.r4_extent_loss.Losing.{IsLosing}
+use Rattle.r4_extent_growth.specs.r4_measure.r4_cell.Seen.{CellSeen, node_of}
+use Rattle.r4_extent_growth.specs.r4_measure.r4_cell.declared.change.Fresh.{Fresh}
+use Rattle.r4_extent_growth.specs.r4_measure.r4_leaf.Units.{leaf_bytes}
+use Rattle.r4_extent_growth.specs.r4_measure.r4_path.Sharing.{IsSound}
+use Rattle.r4_extent_growth.specs.r4_measure.r4_reach.Needs.{is_met, units_after}
+use Rattle.r4_extent_growth.specs.r4_measure.r4_reach.Touched.{Body, first_byte}
 use Rattle.r4_extent_shrink.specs.Going.{MayLeave, may_leave}
 
 -- The body stands in extents and loses blocks, and none of its blocks gets bytes.

@@ -4,17 +4,14 @@
 ghost use Rattle.std.specs.Prelude.{◌≡◌, ◌++◌, ◌∷◌, [], IfOk, OnOk, Some, map, true};
 ghost use Rattle.std.specs.Arc.{arc_value};
 ghost use Rattle.r4_content.specs.Held.{edits_of};
-ghost use Rattle.r4_extent_demands.specs.Sizes.{IsSizedBody};
+ghost use Rattle.r4_extent_growth.specs.r4_extent_demands.Sizes.{IsSizedBody};
 ghost use Rattle.r4_extent_growth.specs.r4_extent_change.Among.{is_losing, losing_twigs};
 ghost use Rattle.r4_extent_growth.specs.Coming.{coming_beside, count_of};
 ghost use Rattle.r4_extent_shrink.specs.Shrinking.{twigs_losing};
 
 use r4_base::{Memory, NodeId};
 use r4_content::Edits;
-use r4_extent_demands::{SizedBody, pieces_after};
-use r4_extent_growth::extra_twigs;
-use r4_extent_loss::gone_of;
-use r4_measure::Cell;
+use r4_extent_growth::{Cell, SizedBody, extra_twigs, gone_of, pieces_after};
 use std::alloc::Global;
 use std::sync::Arc;
 

@@ -8,21 +8,18 @@ ghost use Rattle.std.specs.List.{list_all, list_any};
 ghost use Rattle.std.specs.Option.{option_map};
 ghost use Rattle.r4_base.specs.Cell.{run_names};
 ghost use Rattle.r4_base.specs.Key.{offset_of, rank};
-ghost use Rattle.r4_extent_demands.specs.Sizes.{IsSizedBody};
-ghost use Rattle.r4_measure.specs.r4_branch.Pieces.{Follow, IsSound, names_of, next_of, part_names};
-ghost use Rattle.r4_measure.specs.r4_path.TwigPieces.{ArePiecesOf};
+ghost use Rattle.r4_extent_growth.specs.r4_extent_demands.Sizes.{IsSizedBody};
+ghost use Rattle.r4_extent_growth.specs.r4_measure.r4_branch.Pieces.{Follow, IsSound, names_of, next_of, part_names};
+ghost use Rattle.r4_extent_growth.specs.r4_measure.r4_path.TwigPieces.{ArePiecesOf};
 ghost use Rattle.r4_extent_growth.specs.Turning.{ends_by};
 ghost use Rattle.r4_extent_shrink.specs.Going.{block_suits, has_key, has_number, is_behind};
 ghost use Rattle.r4_extent_shrink.specs.Going.{is_border, leaf_suits, may_leave, name_suits};
 ghost use Rattle.r4_extent_shrink.specs.Going.{pieces_suit};
 
 use r4_base::{BLOCK_BYTES, Key, NodeId, Unit};
-use r4_extent_demands::{SizedBody, unit_end};
-use r4_extent_growth::ends_by;
-use r4_extent_loss::gone_of;
-use r4_graft::{TwigPart, TwigPiece};
-use r4_leaf::KeyRange;
-use r4_measure::Cell;
+use r4_extent_growth::{
+    Cell, KeyRange, SizedBody, TwigPart, TwigPiece, ends_by, gone_of, unit_end,
+};
 use std::sync::Arc;
 
 // Whether the blocks that go of a twig may go, where these are its pieces.

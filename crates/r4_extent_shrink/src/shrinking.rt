@@ -7,12 +7,12 @@ ghost use Rattle.std.specs.List.{list_all};
 ghost use Rattle.r4_base.specs.Node.{mkfs_id_of};
 ghost use Rattle.r4_base.specs.declared.key.Key.{Key as KeySeen};
 ghost use Rattle.r4_content.specs.Held.{edits_of};
-ghost use Rattle.r4_measure.specs.r4_cell.Seen.{CellSeen};
-ghost use Rattle.r4_measure.specs.r4_path.TwigPieces.{ArePiecesOf, twig_pieces};
-ghost use Rattle.r4_extent_demands.specs.Sizes.{AreExtentEdits, IsSizedBody};
+ghost use Rattle.r4_extent_growth.specs.r4_measure.r4_cell.Seen.{CellSeen};
+ghost use Rattle.r4_extent_growth.specs.r4_measure.r4_path.TwigPieces.{ArePiecesOf, twig_pieces};
+ghost use Rattle.r4_extent_growth.specs.r4_extent_demands.Sizes.{AreExtentEdits, IsSizedBody};
 ghost use Rattle.r4_extent_growth.specs.r4_extent_change.Among.{losing_twigs};
 ghost use Rattle.r4_extent_growth.specs.Lying.{lie_in_leaves};
-ghost use Rattle.r4_extent_loss.specs.Losing.{IsLosing};
+ghost use Rattle.r4_extent_growth.specs.r4_extent_loss.Losing.{IsLosing};
 ghost use Rattle.r4_extent_shrink.specs.Going.{IsKnown, may_leave};
 ghost use Rattle.r4_extent_shrink.specs.Shrink.{MayLoseAll, does_lose, has_numbers, may_lose};
 
@@ -20,10 +20,9 @@ use crate::coming::is_losing;
 use crate::going::may_leave;
 use r4_base::{Memory, get32};
 use r4_content::Edits;
-use r4_extent_demands::{SizedBody, gets_some};
-use r4_extent_growth::{have_room, lie_in_leaves, without_bytes};
-use r4_leaf_edits::pieces_of_cell;
-use r4_measure::{Cell, Fresh};
+use r4_extent_growth::{
+    Cell, Fresh, SizedBody, gets_some, have_room, lie_in_leaves, pieces_of_cell, without_bytes,
+};
 use std::alloc::Global;
 use std::sync::Arc;
 

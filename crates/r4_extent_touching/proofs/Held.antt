@@ -7,16 +7,16 @@ use Rattle.std.proofs.lemmas.Bool.Decides.{nat_tests}
 use Rattle.r4_base.specs.Key.{least, rank, top}
 use Rattle.r4_base.specs.Tree.{Node}
 use Rattle.r4_base.specs.Value.{Value}
-use Rattle.r4_cell.specs.Seen.{CellSeen, node_of}
-use Rattle.r4_cell.specs.declared.change.Root.{Root}
+use Rattle.r4_touching.specs.r4_cell.Seen.{CellSeen, node_of}
+use Rattle.r4_touching.specs.r4_cell.declared.change.Root.{Root}
 use Rattle.r4_content.specs.Edited.{is_between, is_in}
 use Rattle.r4_content.specs.Held.{interval_of}
 use Rattle.r4_content.specs.declared.edits.Interval.{Interval}
-use Rattle.r4_search.specs.Pool.{Goes, IsOf, PoolState}
+use Rattle.r4_marking.specs.r4_search.Pool.{Goes, IsOf, PoolState}
 use Rattle.r4_touching.proofs.r4_seeing.Hanging.{met_for, still_hung}
 use Rattle.r4_touching.specs.r4_seeing.Looking.{met_cells}
-use Rattle.r4_sight.specs.Stretches.{IsStretch, Looks}
-use Rattle.r4_sight.specs.declared.stretch.Stretch.{Stretch}
+use Rattle.r4_touching.specs.r4_sight.Stretches.{IsStretch, Looks}
+use Rattle.r4_touching.specs.r4_sight.declared.stretch.Stretch.{Stretch}
 use Rattle.r4_touching.specs.Touching.{Touches}
 use Rattle.r4_extent_touching.specs.Holding.{AreHeld, IsHeld}
 

@@ -7,15 +7,15 @@ use Rattle.r4_base.specs.Cell.{item_names, names_in, next_key}
 use Rattle.r4_base.specs.Key.{rank}
 use Rattle.r4_base.specs.Node.{Item, items_of}
 use Rattle.r4_base.specs.Tree.{Name}
-use Rattle.r4_cell.specs.Seen.{CellSeen, node_of}
+use Rattle.r4_touching.specs.r4_cell.Seen.{CellSeen, node_of}
 use Rattle.r4_marking.specs.Marks.{IsChildAt, NoChildAt}
 use Rattle.r4_marking.proofs.r4_path.CellNodes.{names_are}
-use Rattle.r4_patch.proofs.Members.{here}
-use Rattle.r4_search.proofs.Walks.{goes_both}
-use Rattle.r4_search.specs.Place.{child_name}
-use Rattle.r4_search.specs.Pool.{Goes, IsNamed, KnowsNames, PoolState}
-use Rattle.r4_search.specs.declared.inside.Child.{Child}
-use Rattle.r4_search.specs.declared.pool.FetchFault.{FetchFault}
+use Rattle.r4_marking.proofs.r4_patch.Members.{here}
+use Rattle.r4_marking.proofs.r4_search.Walks.{goes_both}
+use Rattle.r4_marking.specs.r4_search.Place.{child_name}
+use Rattle.r4_marking.specs.r4_search.Pool.{Goes, IsNamed, KnowsNames, PoolState}
+use Rattle.r4_marking.specs.r4_search.declared.inside.Child.{Child}
+use Rattle.r4_marking.specs.r4_search.declared.pool.FetchFault.{FetchFault}
 use Rattle.r4_extent_touching.specs.Holding.{AreLeftMet, AreLeftMetAt, MeetsLeft, StopsLeft}
 
 -- ---- names, item by item

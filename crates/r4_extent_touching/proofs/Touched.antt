@@ -6,9 +6,9 @@ use Rattle.std.proofs.Math.Nat.{lt_of_not-le}
 use Rattle.r4_base.specs.Tree.{Holds, InName, InNode, IsData, Name, Node, Root, Store}
 use Rattle.r4_base.specs.Value.{Value}
 use Rattle.r4_base.proofs.Trees.{one_cell}
-use Rattle.r4_patch.specs.Part.{IsPart}
-use Rattle.r4_patch.proofs.Holding.{block_twig, one_name, one_span}
-use Rattle.r4_patch.proofs.PartCells.{leaf_or_extent}
+use Rattle.r4_marking.specs.r4_patch.Part.{IsPart}
+use Rattle.r4_marking.proofs.r4_patch.Holding.{block_twig, one_name, one_span}
+use Rattle.r4_marking.proofs.r4_patch.PartCells.{leaf_or_extent}
 use Rattle.r4_marking.specs.r4_reach.Demand.{Covers, Demand}
 use Rattle.r4_marking.specs.r4_reach.Reach.{HasTouched}
 use Rattle.r4_extent_touching.specs.Holding.{HoldsTouched, IsHeld}

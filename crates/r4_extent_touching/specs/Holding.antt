@@ -4,12 +4,12 @@ use Rattle.r4_base.specs.Key.{least, top}
 use Rattle.r4_base.specs.Node.{Item, items_of}
 use Rattle.r4_base.specs.Tree.{Holds, Name, Node, Store}
 use Rattle.r4_base.specs.Value.{Value}
-use Rattle.r4_cell.specs.Seen.{CellSeen, node_of}
+use Rattle.r4_touching.specs.r4_cell.Seen.{CellSeen, node_of}
 use Rattle.r4_marking.specs.Marks.{names_at}
 use Rattle.r4_marking.specs.r4_reach.Demand.{Demand}
 use Rattle.r4_marking.specs.r4_reach.Reach.{Touches}
-use Rattle.r4_search.specs.Pool.{Goes, IsNamed, IsRefused, PoolState}
-use Rattle.r4_search.specs.declared.pool.FetchFault.{FetchFault}
+use Rattle.r4_marking.specs.r4_search.Pool.{Goes, IsNamed, IsRefused, PoolState}
+use Rattle.r4_marking.specs.r4_search.declared.pool.FetchFault.{FetchFault}
 use Rattle.r4_touching.specs.r4_seeing.Looking.{met_cells}
 
 -- A cell of the store holds the key: a leaf, a data block, or a twig with an extent of which no block has it.

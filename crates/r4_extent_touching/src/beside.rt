@@ -3,15 +3,13 @@
 ghost use Rattle.std.specs.Prelude.{◌≡◌, ◌≤◌, ◌<◌, ℕ, IfErr, OnOk, length, true};
 ghost use Rattle.r4_base.specs.Key.{rank};
 ghost use Rattle.r4_base.specs.Node.{items_of};
-ghost use Rattle.r4_node40.specs.View.{view_items};
-ghost use Rattle.r4_search.specs.Pool.{Goes, KnowsNames, LeavesDevice};
+ghost use Rattle.r4_marking.specs.r4_node40.View.{view_items};
+ghost use Rattle.r4_marking.specs.r4_search.Pool.{Goes, KnowsNames, LeavesDevice};
 ghost use Rattle.r4_extent_touching.specs.Holding.{AreLeftMet, AreLeftMetAt, MeetsLeft, StopsLeft};
 
 use r4_base::Key;
-use r4_cell::Cell;
-use r4_marking::child_at;
-use r4_node40::NodeView;
-use r4_search::{FetchFault, Pool};
+use r4_marking::{FetchFault, NodeView, Pool, child_at};
+use r4_touching::Cell;
 use std::alloc::Global;
 
 /// Meets the leaf that a twig names and that ends at a key, if there is one: where blocks go that begin at the key, it

@@ -2,7 +2,7 @@
 
 ghost use Rattle.r4_base.specs.Tree.{Root, Store};
 ghost use Rattle.r4_base.specs.Value.{Value};
-ghost use Rattle.r4_patch.specs.Part.{IsPart};
+ghost use Rattle.r4_marking.specs.r4_patch.Part.{IsPart};
 ghost use Rattle.r4_marking.specs.r4_reach.Demand.{Demand};
 ghost use Rattle.r4_marking.specs.r4_reach.Reach.{HasTouched};
 ghost use Rattle.r4_extent_touching.specs.Holding.{HoldsTouched};

@@ -7,4 +7,5 @@ mod touching;
 
 pub use beside::touch_left;
 pub use laws::held_cells_are_touched;
+pub use r4_touching::{Asked, Seeing, key_after, keys_asked, plan, see_for, stretch_from};
 pub use touching::touch_all;

@@ -4,16 +4,15 @@ ghost use Rattle.std.specs.Prelude.{◌≡◌, ◌+◌, ◌≤◌, ◌<◌, ℕ,
 ghost use Rattle.r4_base.specs.Key.{least, rank, top};
 ghost use Rattle.r4_content.specs.Edited.{is_between, is_in};
 ghost use Rattle.r4_content.specs.Held.{interval_of};
-ghost use Rattle.r4_search.specs.Path.{root_name};
-ghost use Rattle.r4_search.specs.Pool.{IsKnown, LeavesDevice};
+ghost use Rattle.r4_marking.specs.r4_search.Path.{root_name};
+ghost use Rattle.r4_marking.specs.r4_search.Pool.{IsKnown, LeavesDevice};
 ghost use Rattle.r4_touching.specs.Touching.{StopsFor, Touches};
 ghost use Rattle.r4_extent_touching.specs.Holding.{AreHeld};
 
 use r4_base::Key;
-use r4_cell::{Root, least, top};
 use r4_content::Interval;
-use r4_search::{FetchFault, Pool};
-use r4_sight::stretch_from;
+use r4_marking::{FetchFault, Pool};
+use r4_touching::{Root, least, stretch_from, top};
 use std::alloc::Global;
 
 /// Meets the cells that hold the keys of some intervals, in their order: the leaf of a key; and of one in the range of

@@ -10,26 +10,26 @@ use Rattle.r4_base.specs.Key.{offset_of, rank}
 use Rattle.r4_base.specs.Tree.{Name}
 use Rattle.r4_base.specs.declared.key.Key.{Key}
 use Rattle.r4_base.specs.declared.things.NodeId.{NodeId}
-use Rattle.r4_branch.specs.Pieces.{bytes_behind, last_end, open_end, part_bytes, part_end, piece_end, twig_bytes}
-use Rattle.r4_branch.specs.declared.piece.TwigPart.{TwigPart}
-use Rattle.r4_branch.specs.declared.piece.TwigPart.TheVariants.{Blocks, Pointer}
-use Rattle.r4_branch.specs.declared.piece.TwigPiece.{TwigPiece}
-use Rattle.r4_cell.specs.Seen.{CellSeen, node_of}
+use Rattle.r4_build.specs.r4_branch.Pieces.{bytes_behind, last_end, open_end, part_bytes, part_end, piece_end, twig_bytes}
+use Rattle.r4_build.specs.r4_branch.declared.piece.TwigPart.{TwigPart}
+use Rattle.r4_build.specs.r4_branch.declared.piece.TwigPart.TheVariants.{Blocks, Pointer}
+use Rattle.r4_build.specs.r4_branch.declared.piece.TwigPiece.{TwigPiece}
+use Rattle.r4_extent_build.specs.r4_cell.Seen.{CellSeen, node_of}
 use Rattle.r4_content.specs.Edited.{Edits}
-use Rattle.r4_edit.specs.Extents.{given_cells, pointer_to}
-use Rattle.r4_edit.specs.LeafParts.{HasLeft}
+use Rattle.r4_extent_build.specs.r4_edit.Extents.{given_cells, pointer_to}
+use Rattle.r4_extent_build.specs.r4_edit.LeafParts.{HasLeft}
 use Rattle.r4_extent_build.specs.Growing.{end_after}
-use Rattle.r4_extent_edit.proofs.ExtentEffect.{is_off, is_on}
-use Rattle.r4_extent_edit.proofs.SpanBorders.{follow_within as piece_within}
-use Rattle.r4_extent_edit.proofs.TurnPieces.{last_low}
-use Rattle.r4_graft.specs.Splices.{place}
-use Rattle.r4_graft.proofs.Joined.{bytes_join, bytes_most}
-use Rattle.r4_graft.proofs.Placed.{follow_above, has_end, place_none, place_some}
-use Rattle.r4_patch.proofs.Members.{cases, here, later, none}
-use Rattle.r4_path.specs.TwigPieces.{twig_pieces}
-use Rattle.r4_path.proofs.Rising.{follow_within}
-use Rattle.r4_reach.specs.Needs.{Ask, pieces_after, without_gone}
-use Rattle.r4_reach.specs.Touched.{Body, first_byte}
+use Rattle.r4_extent_build.proofs.r4_extent_edit.ExtentEffect.{is_off, is_on}
+use Rattle.r4_extent_build.proofs.r4_extent_edit.SpanBorders.{follow_within as piece_within}
+use Rattle.r4_extent_build.proofs.r4_extent_edit.TurnPieces.{last_low}
+use Rattle.r4_extent_build.specs.r4_graft.Splices.{place}
+use Rattle.r4_extent_build.proofs.r4_graft.Joined.{bytes_join, bytes_most}
+use Rattle.r4_extent_build.proofs.r4_graft.Placed.{follow_above, has_end, place_none, place_some}
+use Rattle.r4_build.proofs.r4_patch.Members.{cases, here, later, none}
+use Rattle.r4_build.specs.r4_path.TwigPieces.{twig_pieces}
+use Rattle.r4_build.proofs.r4_path.Rising.{follow_within}
+use Rattle.r4_build.specs.r4_reach.Needs.{Ask, pieces_after, without_gone}
+use Rattle.r4_build.specs.r4_reach.Touched.{Body, first_byte}
 use Rattle.r4_extent_turn.specs.Asked.{OnlyTurnedGo, goes_by, pointers_left}
 use Rattle.r4_extent_turn.specs.Turning.{AreKept, IsTurnFor, IsTurningBody, Kept, Turn, in_turned, last_of, leaves_of, left_pointer, told_extent, told_pieces}
 use Rattle.r4_extent_turn.proofs.Bodies.{told_follow}

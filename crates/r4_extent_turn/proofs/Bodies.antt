@@ -4,15 +4,15 @@ use Rattle.std.specs.Prelude.{◌&&◌, ◌||◌, not, nat_lt}
 use Rattle.r4_base.specs.Key.{offset_of, rank}
 use Rattle.r4_base.specs.Volume.{blocks_for}
 use Rattle.r4_base.specs.declared.key.Key.{Key}
-use Rattle.r4_branch.specs.Pieces.{Follow, names_of, next_of, units_of}
-use Rattle.r4_branch.specs.declared.piece.TwigPiece.{TwigPiece}
+use Rattle.r4_build.specs.r4_branch.Pieces.{Follow, names_of, next_of, units_of}
+use Rattle.r4_build.specs.r4_branch.declared.piece.TwigPiece.{TwigPiece}
 use Rattle.r4_content.specs.Edited.{Edits}
 use Rattle.r4_extent_build.specs.Growing.{end_after}
 use Rattle.r4_extent_build.specs.Numbering.{names_coming, with_numbers}
 use Rattle.r4_extent_build.proofs.Numbers.{numbers_follow, numbers_next, numbers_units}
 use Rattle.r4_extent_build.proofs.RunPieces.{AreFree, AreRuns, are_runs}
-use Rattle.r4_reach.specs.Needs.{gets_bytes, runs}
-use Rattle.r4_reach.specs.Touched.{Body, blocks_end, coming, first_byte}
+use Rattle.r4_build.specs.r4_reach.Needs.{gets_bytes, runs}
+use Rattle.r4_build.specs.r4_reach.Touched.{Body, blocks_end, coming, first_byte}
 use Rattle.r4_extent_turn.specs.Turning.{IsTurningBody, told_extent}
 
 module _ (b : Body) (first : Key) (g : IsTurningBody b first) where

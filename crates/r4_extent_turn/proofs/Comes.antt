@@ -6,29 +6,29 @@ use Rattle.std.proofs.lemmas.List.{append-nil, length-append}
 use Rattle.r4_base.specs.Key.{IsKey, key_of_rank, rank}
 use Rattle.r4_base.specs.Tree.{Name}
 use Rattle.r4_base.specs.declared.key.Key.{Key}
-use Rattle.r4_branch.specs.Pieces.{AreTwigPieces, Follow, names_of, next_of, part_names, part_units, units_of}
-use Rattle.r4_branch.specs.declared.piece.TwigPiece.{TwigPiece}
-use Rattle.r4_branch.proofs.ItemPieces.{units_append}
-use Rattle.r4_cell.specs.Seen.{CellSeen, node_of}
+use Rattle.r4_build.specs.r4_branch.Pieces.{AreTwigPieces, Follow, names_of, next_of, part_names, part_units, units_of}
+use Rattle.r4_build.specs.r4_branch.declared.piece.TwigPiece.{TwigPiece}
+use Rattle.r4_build.proofs.r4_branch.ItemPieces.{units_append}
+use Rattle.r4_extent_build.specs.r4_cell.Seen.{CellSeen, node_of}
 use Rattle.r4_content.specs.Edited.{Edits}
-use Rattle.r4_edit.specs.Extents.{given_cells, pointer_to}
-use Rattle.r4_edit.specs.LeafParts.{HasLeft, HasRight}
-use Rattle.r4_edit.proofs.CutGraft.{may_be_named}
-use Rattle.r4_edit.proofs.OverLeaf.{first_there}
-use Rattle.r4_edit.proofs.OverUnits.{pointer_none}
+use Rattle.r4_extent_build.specs.r4_edit.Extents.{given_cells, pointer_to}
+use Rattle.r4_extent_build.specs.r4_edit.LeafParts.{HasLeft, HasRight}
+use Rattle.r4_build.proofs.r4_edit.CutGraft.{may_be_named}
+use Rattle.r4_build.proofs.r4_edit.OverLeaf.{first_there}
+use Rattle.r4_build.proofs.r4_edit.OverUnits.{pointer_none}
 use Rattle.r4_extent_build.specs.Growing.{end_after}
 use Rattle.r4_extent_build.specs.Numbering.{names_coming}
-use Rattle.r4_extent_demands.proofs.r4_leaf_edits.KeyRanks.{key_again}
-use Rattle.r4_extent_edit.specs.Between.{pieces_over}
-use Rattle.r4_extent_edit.specs.Turning.{AreAround}
-use Rattle.r4_extent_edit.proofs.LeafPointers.{HasPointers}
-use Rattle.r4_extent_edit.proofs.TurnPieces.{front, h, last_in, over_is, rest}
-use Rattle.r4_graft.proofs.Joined.{end_of, follow_join, follow_parts, names_join, next_join}
-use Rattle.r4_graft.proofs.SplicedNames.{spliced_names}
-use Rattle.r4_path.specs.Steps.{name_of}
-use Rattle.r4_path.specs.TwigPieces.{twig_pieces}
-use Rattle.r4_path.proofs.Rising.{hi_is}
-use Rattle.r4_reach.specs.Touched.{Body, first_byte}
+use Rattle.r4_extent_build.proofs.r4_extent_demands.r4_leaf_edits.KeyRanks.{key_again}
+use Rattle.r4_extent_build.specs.r4_extent_edit.Between.{pieces_over}
+use Rattle.r4_extent_build.specs.r4_extent_edit.Turning.{AreAround}
+use Rattle.r4_extent_build.proofs.r4_extent_edit.LeafPointers.{HasPointers}
+use Rattle.r4_extent_build.proofs.r4_extent_edit.TurnPieces.{front, h, last_in, over_is, rest}
+use Rattle.r4_extent_build.proofs.r4_graft.Joined.{end_of, follow_join, follow_parts, names_join, next_join}
+use Rattle.r4_extent_build.proofs.r4_graft.SplicedNames.{spliced_names}
+use Rattle.r4_build.specs.r4_path.Steps.{name_of}
+use Rattle.r4_build.specs.r4_path.TwigPieces.{twig_pieces}
+use Rattle.r4_build.proofs.r4_path.Rising.{hi_is}
+use Rattle.r4_build.specs.r4_reach.Touched.{Body, first_byte}
 use Rattle.r4_extent_turn.specs.Turning.{AreKept, IsTurnFor, IsTurningBody, Kept, Turn, blocks_turned}
 use Rattle.r4_extent_turn.specs.Turning.{last_of, left_pointer, leaves_of, numbered, pieces_with, told_extent, with_id}
 use Rattle.r4_extent_turn.proofs.Bodies.{extent, extent_follow, extent_names, extent_next, extent_units}

@@ -8,8 +8,8 @@ use Rattle.std.proofs.lemmas.List.Concat.{flat_map-append, flat_map-cons}
 use Rattle.r4_content.specs.Edited.{Pairs}
 use Rattle.r4_content.specs.Held.{run_pairs}
 use Rattle.r4_content.specs.declared.edits.ByteRun.{ByteRun}
-use Rattle.r4_extent_blocks.specs.Setting.{last_put}
-use Rattle.r4_extent_blocks.proofs.Sets.{last_more}
+use Rattle.r4_extent_build.specs.r4_extent_blocks.Setting.{last_put}
+use Rattle.r4_extent_build.proofs.r4_extent_blocks.Sets.{last_more}
 use Rattle.r4_extent_turn.specs.Gathering.{Adds}
 
 or_assoc : (x y z : Option ℕ) → option_or (option_or x y) z ≡ option_or x (option_or y z)

@@ -2,18 +2,18 @@
 use Rattle.std.proofs.Common.{◌≡◌, ℕ, ◌+◌, ◌*◌, ◌^◌, ◌<◌, ◌≤◌, true, List, [], ◌∷◌, get_or, refl, arith}
 use Rattle.r4_base.specs.Key.{IsKey, offset_of, rank}
 use Rattle.r4_base.specs.declared.key.Key.{Key}
-use Rattle.r4_cell.specs.Seen.{CellSeen}
+use Rattle.r4_extent_build.specs.r4_cell.Seen.{CellSeen}
 use Rattle.r4_extent_build.specs.Growing.{end_after}
-use Rattle.r4_extent_edit.specs.Turning.{AreEnds}
-use Rattle.r4_extent_edit.proofs.ExtentEffect.{is_on}
-use Rattle.r4_extent_edit.proofs.TurnPieces.{last_in, turn_border}
-use Rattle.r4_graft.specs.Splices.{IsBorder}
-use Rattle.r4_leaf.specs.Units.{is_between}
-use Rattle.r4_patch.proofs.Members.{here}
-use Rattle.r4_path.specs.Steps.{name_of}
-use Rattle.r4_path.specs.TwigPieces.{twig_pieces}
-use Rattle.r4_path.proofs.Rising.{hi_is, lo_is}
-use Rattle.r4_reach.specs.Touched.{Body, first_byte}
+use Rattle.r4_extent_build.specs.r4_extent_edit.Turning.{AreEnds}
+use Rattle.r4_extent_build.proofs.r4_extent_edit.ExtentEffect.{is_on}
+use Rattle.r4_extent_build.proofs.r4_extent_edit.TurnPieces.{last_in, turn_border}
+use Rattle.r4_extent_build.specs.r4_graft.Splices.{IsBorder}
+use Rattle.r4_build.specs.r4_leaf.Units.{is_between}
+use Rattle.r4_build.proofs.r4_patch.Members.{here}
+use Rattle.r4_build.specs.r4_path.Steps.{name_of}
+use Rattle.r4_build.specs.r4_path.TwigPieces.{twig_pieces}
+use Rattle.r4_build.proofs.r4_path.Rising.{hi_is, lo_is}
+use Rattle.r4_build.specs.r4_reach.Touched.{Body, first_byte}
 use Rattle.r4_extent_turn.specs.Turning.{IsTurnFor, Turn, last_of, leaves_of}
 use Rattle.r4_extent_turn.specs.TurningIn.{turn_from}
 use Rattle.r4_extent_turn.proofs.Comes.{around_leaf}

@@ -7,24 +7,24 @@ use Rattle.r4_base.specs.Key.{rank}
 use Rattle.r4_base.specs.Tree.{IsNode}
 use Rattle.r4_base.specs.Value.{Value}
 use Rattle.r4_base.specs.declared.key.Key.{Key}
-use Rattle.r4_cell.specs.Seen.{CellSeen, node_of}
-use Rattle.r4_edit.specs.Extents.{given_cells}
-use Rattle.r4_edit.specs.LeafParts.{HasLeft, HasRight, units_below}
-use Rattle.r4_edit.proofs.OverLeaf.{leaf_node}
+use Rattle.r4_extent_build.specs.r4_cell.Seen.{CellSeen, node_of}
+use Rattle.r4_extent_build.specs.r4_edit.Extents.{given_cells}
+use Rattle.r4_extent_build.specs.r4_edit.LeafParts.{HasLeft, HasRight, units_below}
+use Rattle.r4_build.proofs.r4_edit.OverLeaf.{leaf_node}
 use Rattle.r4_extent_build.specs.Growing.{end_after}
-use Rattle.r4_extent_edit.specs.Turning.{last_leaf}
-use Rattle.r4_extent_edit.proofs.ExtentEffect.{is_off, is_on}
-use Rattle.r4_extent_edit.proofs.GraftEffect.{IsPlacedIn}
-use Rattle.r4_extent_edit.proofs.TurnEffect.{KeepsFrom, keeps_from}
-use Rattle.r4_extent_edit.proofs.TurnPieces.{last_in}
-use Rattle.r4_leaf.specs.Units.{LeafUnit}
-use Rattle.r4_patch.specs.Effect.{Placed}
-use Rattle.r4_patch.specs.Joining.{ids_of}
-use Rattle.r4_patch.proofs.Members.{Distinct, cases, here, none}
-use Rattle.r4_path.specs.Steps.{CountUp, Follow}
-use Rattle.r4_path.proofs.Rising.{InCell, follow_within, in_cell}
-use Rattle.r4_reach.specs.Touched.{Body, first_byte}
-use Rattle.r4_work.proofs.UnitMembers.{filtered, to_filtered}
+use Rattle.r4_extent_build.specs.r4_extent_edit.Turning.{last_leaf}
+use Rattle.r4_extent_build.proofs.r4_extent_edit.ExtentEffect.{is_off, is_on}
+use Rattle.r4_extent_build.proofs.r4_extent_edit.GraftEffect.{IsPlacedIn}
+use Rattle.r4_extent_build.proofs.r4_extent_edit.TurnEffect.{KeepsFrom, keeps_from}
+use Rattle.r4_extent_build.proofs.r4_extent_edit.TurnPieces.{last_in}
+use Rattle.r4_build.specs.r4_leaf.Units.{LeafUnit}
+use Rattle.r4_build.specs.r4_patch.Effect.{Placed}
+use Rattle.r4_build.specs.r4_patch.Joining.{ids_of}
+use Rattle.r4_build.proofs.r4_patch.Members.{Distinct, cases, here, none}
+use Rattle.r4_build.specs.r4_path.Steps.{CountUp, Follow}
+use Rattle.r4_build.proofs.r4_path.Rising.{InCell, follow_within, in_cell}
+use Rattle.r4_build.specs.r4_reach.Touched.{Body, first_byte}
+use Rattle.r4_build.proofs.r4_work.UnitMembers.{filtered, to_filtered}
 use Rattle.r4_extent_turn.specs.Turning.{AreKept, IsTurnFor, Kept, Turn, in_turned, kept_cells, last_of, leaves_of, numbered, with_id}
 use Rattle.r4_extent_turn.proofs.Comes.{right_low}
 
@@ -77,7 +77,7 @@ below_members k us u = (
 )
 
 -- a leaf before the last one ends where that begins, or before
-ends_before : (lo end : ℕ) (leaf : CellSeen) (more : List CellSeen) (c : CellSeen)
+pub ends_before : (lo end : ℕ) (leaf : CellSeen) (more : List CellSeen) (c : CellSeen)
     → Follow 1 lo end (leaf ∷ more) → Contains (leaf ∷ more) c
     → (c ≡ last_leaf leaf more) ⊎ (rank c.hi ≤ rank (last_leaf leaf more).lo)
 ends_before lo end leaf [] c f at = elim (cases leaf c [] at) [

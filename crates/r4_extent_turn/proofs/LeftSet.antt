@@ -9,38 +9,42 @@ use Rattle.r4_base.specs.Tree.{Name, Node, Root, Store}
 use Rattle.r4_base.specs.Value.{Value}
 use Rattle.r4_base.specs.declared.key.Key.{Key}
 use Rattle.r4_base.proofs.Trees.{one_cell}
-use Rattle.r4_branch.specs.declared.piece.TwigPiece.{TwigPiece}
+use Rattle.r4_build.specs.r4_branch.declared.piece.TwigPiece.{TwigPiece}
 use Rattle.r4_build.specs.Making.{IsOf}
-use Rattle.r4_cell.specs.Seen.{CellSeen, node_of}
-use Rattle.r4_cell.specs.declared.change.Fresh.{Fresh}
+use Rattle.r4_extent_build.specs.r4_cell.Seen.{CellSeen, node_of}
+use Rattle.r4_extent_build.specs.r4_cell.declared.change.Fresh.{Fresh}
 use Rattle.r4_content.specs.Edited.{Edits}
-use Rattle.r4_extent_build.proofs.r4_twig_turns.KeptTurn.{kept, stood}
+use Rattle.r4_extent_build.proofs.r4_twig_turns.KeptTurn.{ascends, stood}
+use Rattle.r4_extent_build.proofs.r4_twig_turns.Left.{left_budget}
 use Rattle.r4_extent_build.proofs.r4_twig_turns.TurnByTurn.{can_turn, next_working}
 use Rattle.r4_extent_build.specs.Looping.{AreTurned}
 use Rattle.r4_extent_build.specs.r4_twig_turns.Turning.{IsReady, IsTurnOf, IsTurned, TwigTurn, behind, own_of}
-use Rattle.r4_measure.proofs.Loop.{from_new, of_id}
-use Rattle.r4_measure.proofs.Placed.{still_in}
-use Rattle.r4_measure.specs.Budget.{Budget, most_from}
-use Rattle.r4_measure.specs.Grafting.{Beside, IsQuietBelow}
-use Rattle.r4_measure.specs.Measured.{IsMeasured}
-use Rattle.r4_patch.proofs.Followed.{among_cell, among_or_not, cell_among, in_without, to_without}
-use Rattle.r4_patch.proofs.Members.{absent, cases, have_names, here, later, none}
-use Rattle.r4_patch.proofs.PartCells.{apart, one_above}
-use Rattle.r4_patch.specs.Following.{is_among, without}
-use Rattle.r4_patch.specs.Joining.{ids_of}
-use Rattle.r4_patch.specs.Part.{IsPart}
-use Rattle.r4_path.proofs.Begun.{ascends_take}
-use Rattle.r4_path.proofs.Rising.{count_within, hi_is, id_member, in_node, level_is, lo_is}
-use Rattle.r4_path.specs.Grafts.{extra_twigs}
-use Rattle.r4_path.specs.Steps.{Ascends, Step, fresh_ids, name_of, news, olds}
-use Rattle.r4_reach.specs.Touched.{Body}
-use Rattle.r4_work.proofs.InPlace.{now_part, standing_is}
-use Rattle.r4_work.proofs.Paths.{ascends_from, lowest_from}
-use Rattle.r4_work.specs.Working.{IsWorking, now_of, root_of, standing}
-use Rattle.r4_work.specs.declared.working.WorkingSet.{WorkingSet}
+use Rattle.r4_build.proofs.r4_measure.Loop.{from_new, of_id}
+use Rattle.r4_build.proofs.r4_measure.Grafted.{graft_height, graft_seen}
+use Rattle.r4_build.proofs.r4_measure.Placed.{placed_measured, still_in}
+use Rattle.r4_build.proofs.r4_measure.TwigTurn.{twig_enough}
+use Rattle.r4_build.specs.r4_measure.Budget.{Budget, most_from}
+use Rattle.r4_build.specs.r4_measure.Grafting.{AreGraftsIn, Beside, IsQuietBelow}
+use Rattle.r4_build.specs.r4_measure.Measured.{IsMeasured}
+use Rattle.r4_build.proofs.r4_patch.Followed.{among_cell, among_or_not, cell_among, in_without, to_without}
+use Rattle.r4_build.proofs.r4_patch.Members.{absent, cases, have_names, here, later, none}
+use Rattle.r4_build.proofs.r4_patch.PartCells.{apart, one_above}
+use Rattle.r4_build.specs.r4_patch.Following.{is_among, without}
+use Rattle.r4_build.specs.r4_patch.Joining.{ids_of}
+use Rattle.r4_build.specs.r4_patch.Part.{IsPart}
+use Rattle.r4_build.proofs.r4_path.Begun.{ascends_take}
+use Rattle.r4_build.proofs.r4_path.Rising.{count_within, hi_is, id_member, in_node, level_is, lo_is}
+use Rattle.r4_build.specs.r4_path.Grafts.{extra_twigs}
+use Rattle.r4_build.specs.r4_path.Steps.{Ascends, Step, fresh_ids, name_of, news, olds}
+use Rattle.r4_build.specs.r4_reach.Touched.{Body}
+use Rattle.r4_build.proofs.r4_work.InPlace.{now_part, standing_is}
+use Rattle.r4_build.proofs.r4_work.Paths.{ascends_from, lowest_from}
+use Rattle.r4_build.specs.r4_work.Working.{IsWorking, now_of, root_of, standing}
+use Rattle.r4_build.specs.r4_work.declared.working.WorkingSet.{WorkingSet}
 use Rattle.r4_extent_turn.specs.TurnedOut.{LeavesLeaves}
 use Rattle.r4_extent_turn.specs.Turning.{AreKept, Kept, Turn, blocks_turned, leaves_of, turning_turn}
 use Rattle.r4_extent_turn.specs.TurningIn.{MayTurnOut, turns_to}
+use Rattle.r4_extent_turn.proofs.FewerLeft.{fewer_left}
 use Rattle.r4_extent_turn.proofs.Keeps.{kept_node, numbers_are}
 use Rattle.r4_extent_turn.proofs.ReadyTurn.{few_kept, ready as ready_turn, turn}
 use Rattle.r4_extent_turn.proofs.TurnOf.{long_ids, turn_of}
@@ -286,12 +290,33 @@ module _ (b : Body) (first : Key) (ed : Edits) (t : Store Value) (r : Root) (x :
         let l = (numbers_are (f.next + blocks_turned b ed) kp).1.1 in
         omega (arith, n, m, k, a, l)
 
+    own_low : 2 ^ 63 ≤ (own_of e f).next
+    own_low = omega (arith, unplaced)
+
+    own_high : (own_of e f).end < 2 ^ 64
+    own_high = omega (arith, numbers, high)
+
+    grafts : AreGraftsIn s root u made.twig made.ups qs y (own_of e f) after made.edit
+    grafts = record {
+      path = ascends t r (own_of e f) after w v u own_measured quiet e.key qs y made fits own_low own_high;
+      enough = twig_enough t r (own_of e f) w u own_measured e.key made.twig made.ups made.path qs fits;
+      come = inr fits;
+      quiet = quiet;
+      grafts = made.grafts;
+    }
+
     now_measured : (left : Budget) × IsMeasured t r (behind e f) v left × IsQuietBelow left
-        × (most_from left (root_of v r) (standing v) ≤ most_from u (root_of w r) (standing w) + (e.blocks + e.leaves))
+        × (most_from left (root_of v r) (standing v) + length (leaves_of x) ≤ most_from u (root_of w r) (standing w) + (e.blocks + e.leaves))
     now_measured =
-        let (left, m, still, same, few) = kept t r (own_of e f) after w v u own_measured quiet e.key qs y made fits (omega (arith, unplaced)) (omega (arith, numbers, high)) in
-        let n = come_long in
-        (left, record { working = now_working; seen = m.seen; budget = m.budget; height = m.height; kept = m.kept }, still, omega (arith, few, n))
+        let (left, budget, less, still, same, few, stays) = left_budget s root part is.seen (own_of e f) after own_working.free own_low own_high is.working.root_number u is.budget made.twig made.ups qs y made.edit grafts in
+        let seen2 = graft_seen s root part is.seen (own_of e f) after own_working.free own_low own_high is.working.root_number u is.budget made.twig made.ups qs y made.edit grafts in
+        let height2 = graft_height s root part is.seen (own_of e f) after own_working.free own_low own_high is.working.root_number u is.budget made.twig made.ups qs y made.edit grafts is.height in
+        let n = come_long in (
+          left,
+          placed_measured t r (own_of e f) w u own_measured v (behind e f) made.edit made.change made.meets old_stands made.put now_working left budget seen2 height2 less,
+          still,
+          fewer_left t r (own_of e f) w u own_measured v made.edit made.change made.meets old_stands made.put left less (length (leaves_of x)) (e.blocks + e.leaves) (omega (arith, few, n)),
+        )
 
     -- another leaf stands as before
     other_leaf : (d : CellSeen) → Contains (standing w) d → d.level ≡ 1 → (Contains (ids_of (leaves_of x)) d.id → ⊥) → Contains (standing v) d

@@ -13,5 +13,6 @@ pub mod ToldRuns
 pub mod GivenLeaves
 pub mod MadeTurn
 pub mod OneTurn
+pub mod FewerLeft
 pub mod LeftSet
 pub mod AskedRoom

@@ -4,22 +4,22 @@ use Rattle.std.specs.Prelude.{Contains, None, Option, Some, option_map}
 use Rattle.std.proofs.lemmas.List.{length-append}
 use Rattle.r4_base.specs.Key.{offset_of, rank}
 use Rattle.r4_base.specs.declared.key.Key.{Key}
-use Rattle.r4_branch.specs.Pieces.{Follow, IsSound, part_end, piece_end}
-use Rattle.r4_branch.specs.declared.piece.TwigPiece.{TwigPiece}
-use Rattle.r4_cell.specs.Seen.{CellSeen}
-use Rattle.r4_cell.specs.declared.change.Fresh.{Fresh}
+use Rattle.r4_build.specs.r4_branch.Pieces.{Follow, IsSound, part_end, piece_end}
+use Rattle.r4_build.specs.r4_branch.declared.piece.TwigPiece.{TwigPiece}
+use Rattle.r4_extent_build.specs.r4_cell.Seen.{CellSeen}
+use Rattle.r4_extent_build.specs.r4_cell.declared.change.Fresh.{Fresh}
 use Rattle.r4_content.specs.Edited.{Edits}
-use Rattle.r4_edit.specs.Extents.{given_cells, pointer_to}
-use Rattle.r4_edit.specs.LeafParts.{HasRight}
-use Rattle.r4_extent_blocks.specs.Setting.{byte_set, last_put}
+use Rattle.r4_extent_build.specs.r4_edit.Extents.{given_cells, pointer_to}
+use Rattle.r4_extent_build.specs.r4_edit.LeafParts.{HasRight}
+use Rattle.r4_extent_build.specs.r4_extent_blocks.Setting.{byte_set, last_put}
 use Rattle.r4_extent_build.specs.Growing.{end_after}
 use Rattle.r4_extent_build.specs.Numbering.{CanNumber, IsNumbered, is_coming}
 use Rattle.r4_extent_build.proofs.Numbers.{told}
-use Rattle.r4_extent_edit.specs.Between.{pieces_over}
-use Rattle.r4_extent_edit.proofs.SpanBorders.{follow_within}
-use Rattle.r4_measure.specs.Grafting.{Beside}
-use Rattle.r4_patch.proofs.Members.{cases, none}
-use Rattle.r4_reach.specs.Touched.{Body, first_byte}
+use Rattle.r4_extent_build.specs.r4_extent_edit.Between.{pieces_over}
+use Rattle.r4_extent_build.proofs.r4_extent_edit.SpanBorders.{follow_within}
+use Rattle.r4_build.specs.r4_measure.Grafting.{Beside}
+use Rattle.r4_build.proofs.r4_patch.Members.{cases, none}
+use Rattle.r4_build.specs.r4_reach.Touched.{Body, first_byte}
 use Rattle.r4_extent_turn.specs.Gathering.{units_within}
 use Rattle.r4_extent_turn.specs.Keeping.{KeepsEnds}
 use Rattle.r4_extent_turn.specs.Turning.{AreKept, IsTurningBody, Kept, Turn, blocks_turned, kept_cells, last_of, left_pointer}

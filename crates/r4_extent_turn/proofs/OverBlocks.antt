@@ -5,11 +5,11 @@ use Rattle.std.specs.Option.{option_or}
 use Rattle.std.proofs.lemmas.List.{ext_get_or}
 use Rattle.r4_base.specs.Key.{later, rank}
 use Rattle.r4_base.specs.declared.key.Key.{Key}
-use Rattle.r4_branch.specs.declared.piece.TwigPiece.{TwigPiece}
-use Rattle.r4_cell.specs.Seen.{CellSeen}
+use Rattle.r4_build.specs.r4_branch.declared.piece.TwigPiece.{TwigPiece}
+use Rattle.r4_extent_build.specs.r4_cell.Seen.{CellSeen}
 use Rattle.r4_content.specs.Edited.{Edits}
-use Rattle.r4_extent_blocks.specs.Setting.{IsOverwritten, SetsNone, byte_set, new_bytes, new_cell}
-use Rattle.r4_extent_blocks.proofs.MadeCells.{new_whole}
+use Rattle.r4_extent_build.specs.r4_extent_blocks.Setting.{IsOverwritten, SetsNone, byte_set, new_bytes, new_cell}
+use Rattle.r4_extent_build.proofs.r4_extent_blocks.MadeCells.{new_whole}
 use Rattle.r4_extent_build.specs.Numbering.{cells_coming, is_coming}
 use Rattle.r4_extent_build.proofs.Numbers.{cells_off, cells_on}
 use Rattle.r4_extent_turn.specs.Turning.{set_over}

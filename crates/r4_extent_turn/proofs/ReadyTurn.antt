@@ -5,23 +5,23 @@ use Rattle.r4_base.specs.Key.{rank}
 use Rattle.r4_base.specs.Tree.{Root, Store}
 use Rattle.r4_base.specs.Value.{Value}
 use Rattle.r4_base.specs.declared.key.Key.{Key}
-use Rattle.r4_branch.specs.Pieces.{twig_bytes}
-use Rattle.r4_cell.specs.Seen.{CellSeen, node_of}
-use Rattle.r4_cell.specs.declared.change.Fresh.{Fresh}
+use Rattle.r4_build.specs.r4_branch.Pieces.{twig_bytes}
+use Rattle.r4_extent_build.specs.r4_cell.Seen.{CellSeen, node_of}
+use Rattle.r4_extent_build.specs.r4_cell.declared.change.Fresh.{Fresh}
 use Rattle.r4_content.specs.Edited.{Edits}
-use Rattle.r4_edit.specs.Extents.{given_cells}
+use Rattle.r4_extent_build.specs.r4_edit.Extents.{given_cells}
 use Rattle.r4_extent_build.specs.r4_twig_turns.Turning.{AreReady, CanRegraftAll, IsReady, TurnAtMost, come_at_most, numbers_for}
 use Rattle.r4_extent_build.proofs.r4_twig_turns.TurnByTurn.{all_turns, few_stand}
-use Rattle.r4_extent_edit.proofs.TurnGraft.{distinct_leaves}
-use Rattle.r4_measure.specs.Budget.{Budget, most_from}
-use Rattle.r4_patch.specs.Part.{IsPart}
-use Rattle.r4_patch.proofs.Members.{have_names, none}
-use Rattle.r4_path.specs.Grafts.{extra_twigs}
-use Rattle.r4_path.proofs.Rising.{hi_is, level_is, lo_is}
-use Rattle.r4_reach.specs.Touched.{Body}
-use Rattle.r4_work.specs.Working.{IsWorking, now_of, root_of, standing}
-use Rattle.r4_work.specs.declared.working.WorkingSet.{WorkingSet}
-use Rattle.r4_work.proofs.InPlace.{now_part, standing_is}
+use Rattle.r4_extent_build.proofs.r4_extent_edit.TurnGraft.{distinct_leaves}
+use Rattle.r4_build.specs.r4_measure.Budget.{Budget, most_from}
+use Rattle.r4_build.specs.r4_patch.Part.{IsPart}
+use Rattle.r4_build.proofs.r4_patch.Members.{have_names, none}
+use Rattle.r4_build.specs.r4_path.Grafts.{extra_twigs}
+use Rattle.r4_build.proofs.r4_path.Rising.{hi_is, level_is, lo_is}
+use Rattle.r4_build.specs.r4_reach.Touched.{Body}
+use Rattle.r4_build.specs.r4_work.Working.{IsWorking, now_of, root_of, standing}
+use Rattle.r4_build.specs.r4_work.declared.working.WorkingSet.{WorkingSet}
+use Rattle.r4_build.proofs.r4_work.InPlace.{now_part, standing_is}
 use Rattle.r4_extent_turn.specs.Turning.{AreKept, IsTurnFor, IsTurningBody, Kept, Turn, blocks_turned, kept_cells, last_of, leaves_of, told_pieces, turning_turn}
 use Rattle.r4_extent_turn.specs.TurningIn.{CanTurnOut, IsTurnIn, MayTurnOut, StandsTurn, turns_to}
 use Rattle.r4_extent_turn.proofs.Room.{same_bytes}

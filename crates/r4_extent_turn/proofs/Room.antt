@@ -2,17 +2,17 @@
 use Rattle.std.proofs.Common.{◌≡◌, ℕ, ◌+◌, ◌*◌, ◌^◌, Bool, true, false, cond, List, [], ◌∷◌, ◌++◌, refl, sym, ap, ◌∙◌}
 use Rattle.std.specs.Prelude.{None, Option, Some, nat_lt, option_map}
 use Rattle.r4_base.specs.Key.{offset_of, rank}
-use Rattle.r4_branch.specs.Pieces.{bytes_behind, last_end, open_end, twig_bytes}
-use Rattle.r4_branch.specs.declared.piece.TwigPart.{TwigPart}
-use Rattle.r4_branch.specs.declared.piece.TwigPart.TheVariants.{Blocks, Pointer}
-use Rattle.r4_branch.specs.declared.piece.TwigPiece.{TwigPiece}
-use Rattle.r4_cell.specs.Seen.{CellSeen}
+use Rattle.r4_build.specs.r4_branch.Pieces.{bytes_behind, last_end, open_end, twig_bytes}
+use Rattle.r4_build.specs.r4_branch.declared.piece.TwigPart.{TwigPart}
+use Rattle.r4_build.specs.r4_branch.declared.piece.TwigPart.TheVariants.{Blocks, Pointer}
+use Rattle.r4_build.specs.r4_branch.declared.piece.TwigPiece.{TwigPiece}
+use Rattle.r4_extent_build.specs.r4_cell.Seen.{CellSeen}
 use Rattle.r4_content.specs.Edited.{Edits}
-use Rattle.r4_edit.specs.Extents.{pointer_to}
+use Rattle.r4_extent_build.specs.r4_edit.Extents.{pointer_to}
 use Rattle.r4_extent_build.specs.Numbering.{block_of, is_coming, with_numbers}
 use Rattle.r4_extent_build.proofs.Numbers.{numbers_bytes, numbers_off, numbers_on, told}
-use Rattle.r4_graft.proofs.Joined.{bytes_join, last_join}
-use Rattle.r4_reach.specs.Touched.{Body}
+use Rattle.r4_extent_build.proofs.r4_graft.Joined.{bytes_join, last_join}
+use Rattle.r4_build.specs.r4_reach.Touched.{Body}
 use Rattle.r4_extent_turn.specs.Turning.{IsTurnFor, Kept, Turn, left_pointer, pieces_with, told_extent, told_pieces, with_id}
 use Rattle.r4_extent_turn.proofs.Comes.{over, p}
 

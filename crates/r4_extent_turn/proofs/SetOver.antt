@@ -6,19 +6,19 @@ use Rattle.std.proofs.lemmas.Bool.{eqb-true, ltb-false}
 use Rattle.std.proofs.lemmas.List.Concat.{flat_map-cons}
 use Rattle.std.proofs.lemmas.List.Elements.{Contains-append_cases}
 use Rattle.r4_base.specs.Value.{Byte, Value}
-use Rattle.r4_cell.specs.Seen.{CellSeen, node_of}
+use Rattle.r4_extent_build.specs.r4_cell.Seen.{CellSeen, node_of}
 use Rattle.r4_content.specs.Edited.{Edits, Intervals, Pairs, is_between, is_in, put_keys}
 use Rattle.r4_content.specs.Objects.{byte_pairs}
 use Rattle.r4_content.specs.Seen.{pairs_in}
-use Rattle.r4_extent_blocks.specs.Setting.{byte_of, byte_set, last_put, zero_in}
-use Rattle.r4_extent_blocks.proofs.Sets.{last_filled, last_more}
+use Rattle.r4_extent_build.specs.r4_extent_blocks.Setting.{byte_of, byte_set, last_put, zero_in}
+use Rattle.r4_extent_build.proofs.r4_extent_blocks.Sets.{last_filled, last_more}
 use Rattle.r4_extent_build.proofs.TurnEffect.{calm}
 use Rattle.r4_extent_build.specs.Growing.{end_after}
 use Rattle.r4_extent_build.specs.Setting.{byte_after}
-use Rattle.r4_patch.proofs.Members.{here, later, none}
-use Rattle.r4_reach.specs.Needs.{gets_bytes, is_met}
-use Rattle.r4_reach.specs.Touched.{Body, first_byte, turns_out}
-use Rattle.r4_work.proofs.UnitMembers.{filtered}
+use Rattle.r4_build.proofs.r4_patch.Members.{here, later, none}
+use Rattle.r4_build.specs.r4_reach.Needs.{gets_bytes, is_met}
+use Rattle.r4_build.specs.r4_reach.Touched.{Body, first_byte, turns_out}
+use Rattle.r4_build.proofs.r4_work.UnitMembers.{filtered}
 use Rattle.r4_extent_turn.specs.Gathering.{units_within}
 use Rattle.r4_extent_turn.specs.Turning.{IsTurnFor, IsTurningBody, Turn, leaves_of, pairs_put, set_over, tails_of, turned_byte, zero_pairs}
 use Rattle.r4_base.specs.declared.key.Key.{Key}

@@ -3,17 +3,17 @@ use Rattle.std.proofs.Common.{◌≡◌, inl, inr, ℕ, Bool, List, refl, sym, a
 use Rattle.std.specs.Prelude.{◌↔◌, Option}
 use Rattle.r4_base.specs.Tree.{Holds, Node, Root, Store}
 use Rattle.r4_base.specs.Value.{Value}
-use Rattle.r4_branch.specs.Pieces.{units_of}
-use Rattle.r4_branch.specs.declared.piece.TwigPiece.{TwigPiece}
-use Rattle.r4_cell.specs.Seen.{CellSeen, node_of}
-use Rattle.r4_cell.specs.declared.change.Fresh.{Fresh}
+use Rattle.r4_build.specs.r4_branch.Pieces.{units_of}
+use Rattle.r4_build.specs.r4_branch.declared.piece.TwigPiece.{TwigPiece}
+use Rattle.r4_extent_build.specs.r4_cell.Seen.{CellSeen, node_of}
+use Rattle.r4_extent_build.specs.r4_cell.declared.change.Fresh.{Fresh}
 use Rattle.r4_content.specs.Edited.{Edits}
-use Rattle.r4_measure.specs.Grafting.{Beside, comes_below}
-use Rattle.r4_patch.specs.Effect.{Placed}
-use Rattle.r4_reach.specs.Touched.{Body}
-use Rattle.r4_twig_work.specs.Regrafting.{SetsBelow, StandsBelow}
-use Rattle.r4_work.specs.Remaking.{Changes}
-use Rattle.r4_work.specs.declared.working.WorkingSet.{WorkingSet}
+use Rattle.r4_build.specs.r4_measure.Grafting.{Beside, comes_below}
+use Rattle.r4_build.specs.r4_patch.Effect.{Placed}
+use Rattle.r4_build.specs.r4_reach.Touched.{Body}
+use Rattle.r4_extent_build.specs.r4_twig_work.Regrafting.{SetsBelow, StandsBelow}
+use Rattle.r4_build.specs.r4_work.Remaking.{Changes}
+use Rattle.r4_build.specs.r4_work.declared.working.WorkingSet.{WorkingSet}
 use Rattle.r4_extent_build.specs.Looping.{AreTurned}
 use Rattle.r4_extent_turn.specs.Turning.{AreKept, Kept, Turn, in_turned, turned_values, turning_turn}
 use Rattle.r4_extent_turn.specs.TurningIn.{CanTurnOut, turns_to}

@@ -7,23 +7,23 @@ use Rattle.r4_base.specs.Key.{rank}
 use Rattle.r4_base.specs.Tree.{IsData}
 use Rattle.r4_base.specs.Value.{Value}
 use Rattle.r4_base.specs.declared.key.Key.{Key}
-use Rattle.r4_branch.specs.Pieces.{units_of}
-use Rattle.r4_branch.specs.declared.piece.TwigPiece.{TwigPiece}
-use Rattle.r4_cell.specs.Seen.{CellSeen, node_of}
+use Rattle.r4_build.specs.r4_branch.Pieces.{units_of}
+use Rattle.r4_build.specs.r4_branch.declared.piece.TwigPiece.{TwigPiece}
+use Rattle.r4_extent_build.specs.r4_cell.Seen.{CellSeen, node_of}
 use Rattle.r4_content.specs.Edited.{Edits}
 use Rattle.r4_extent_build.specs.Growing.{end_after}
 use Rattle.r4_extent_build.specs.Numbering.{cells_coming}
 use Rattle.r4_extent_build.specs.Setting.{byte_after}
 use Rattle.r4_extent_build.proofs.UnitsOfRuns.{IsIn, runs_stand}
-use Rattle.r4_extent_edit.proofs.ExtentEffect.{both_ways, is_on}
-use Rattle.r4_extent_edit.proofs.GraftEffect.{IsPlacedIn}
-use Rattle.r4_patch.specs.Effect.{Placed}
-use Rattle.r4_path.specs.Steps.{name_of}
-use Rattle.r4_path.proofs.Rising.{InCell, follow_covers, in_node, level_is}
-use Rattle.r4_reach.specs.Needs.{gets_bytes, runs}
-use Rattle.r4_reach.specs.Touched.{Body, first_byte}
-use Rattle.r4_twig_work.specs.Regrafting.{SetsBelow, StandsBelow}
-use Rattle.r4_work.proofs.UnitMembers.{between}
+use Rattle.r4_extent_build.proofs.r4_extent_edit.ExtentEffect.{both_ways, is_on}
+use Rattle.r4_extent_build.proofs.r4_extent_edit.GraftEffect.{IsPlacedIn}
+use Rattle.r4_build.specs.r4_patch.Effect.{Placed}
+use Rattle.r4_build.specs.r4_path.Steps.{name_of}
+use Rattle.r4_build.proofs.r4_path.Rising.{InCell, follow_covers, in_node, level_is}
+use Rattle.r4_build.specs.r4_reach.Needs.{gets_bytes, runs}
+use Rattle.r4_build.specs.r4_reach.Touched.{Body, first_byte}
+use Rattle.r4_extent_build.specs.r4_twig_work.Regrafting.{SetsBelow, StandsBelow}
+use Rattle.r4_build.proofs.r4_work.UnitMembers.{between}
 use Rattle.r4_extent_turn.specs.Turning.{AreKept, IsTurnFor, IsTurningBody, Kept, Turn, blocks_turned, in_turned, kept_cells, last_of, leaves_of}
 use Rattle.r4_extent_turn.specs.Turning.{numbered, set_over, tails_of, told_extent, turned_byte, turned_values, turning_turn}
 use Rattle.r4_extent_turn.proofs.Bodies.{count, fits}

@@ -10,25 +10,25 @@ use Rattle.r4_base.specs.Key.{rank}
 use Rattle.r4_base.specs.Node.{items_of}
 use Rattle.r4_base.specs.Volume.{blocks_for}
 use Rattle.r4_base.specs.declared.key.Key.{Key}
-use Rattle.r4_branch.specs.Pieces.{Follow, piece_end, pieces_in}
-use Rattle.r4_branch.specs.declared.piece.TwigPart.{TwigPart}
-use Rattle.r4_branch.specs.declared.piece.TwigPart.TheVariants.{Blocks, Pointer}
-use Rattle.r4_branch.specs.declared.piece.TwigPiece.{TwigPiece}
-use Rattle.r4_cell.specs.Seen.{CellSeen, node_of}
+use Rattle.r4_build.specs.r4_branch.Pieces.{Follow, piece_end, pieces_in}
+use Rattle.r4_build.specs.r4_branch.declared.piece.TwigPart.{TwigPart}
+use Rattle.r4_build.specs.r4_branch.declared.piece.TwigPart.TheVariants.{Blocks, Pointer}
+use Rattle.r4_build.specs.r4_branch.declared.piece.TwigPiece.{TwigPiece}
+use Rattle.r4_extent_build.specs.r4_cell.Seen.{CellSeen, node_of}
 use Rattle.r4_content.specs.Edited.{Edits, is_between}
 use Rattle.r4_extent_build.specs.Growing.{end_after}
 use Rattle.r4_extent_build.specs.Setting.{is_hole_of}
 use Rattle.r4_extent_build.proofs.UncutTwigs.{none_gone, nothing_goes}
-use Rattle.r4_graft.specs.Splices.{place, spliced}
-use Rattle.r4_graft.proofs.Joined.{follow_lower}
-use Rattle.r4_graft.proofs.Placed.{has_end, place_within}
-use Rattle.r4_measure.proofs.Kept.{block_is}
-use Rattle.r4_patch.proofs.Members.{cases, here, later, none}
-use Rattle.r4_path.specs.TwigPieces.{ArePiecesOf, twig_pieces}
-use Rattle.r4_path.proofs.Rising.{hi_is, lo_is}
+use Rattle.r4_extent_build.specs.r4_graft.Splices.{place, spliced}
+use Rattle.r4_extent_build.proofs.r4_graft.Joined.{follow_lower}
+use Rattle.r4_extent_build.proofs.r4_graft.Placed.{has_end, place_within}
+use Rattle.r4_build.proofs.r4_measure.Kept.{block_is}
+use Rattle.r4_build.proofs.r4_patch.Members.{cases, here, later, none}
+use Rattle.r4_build.specs.r4_path.TwigPieces.{ArePiecesOf, twig_pieces}
+use Rattle.r4_build.proofs.r4_path.Rising.{hi_is, lo_is}
 use Rattle.r4_base.specs.Tree.{Name}
-use Rattle.r4_reach.specs.Needs.{Ask, points_to, cut_pieces, filled, gets_bytes, is_hole_part, pieces_after, runs, with_coming, without_gone}
-use Rattle.r4_reach.specs.Touched.{Body, blocks_end, first_byte, going}
+use Rattle.r4_build.specs.r4_reach.Needs.{Ask, points_to, cut_pieces, filled, gets_bytes, is_hole_part, pieces_after, runs, with_coming, without_gone}
+use Rattle.r4_build.specs.r4_reach.Touched.{Body, blocks_end, first_byte, going}
 use Rattle.r4_extent_turn.specs.Turning.{IsTurningBody, told_extent}
 use Rattle.r4_extent_turn.proofs.Bodies.{coming_is, turned}
 

@@ -5,21 +5,21 @@ use Rattle.std.proofs.lemmas.List.Elements.{Contains-append_cases, Contains-appe
 use Rattle.r4_base.specs.Key.{rank}
 use Rattle.r4_base.specs.Tree.{IsData, Name}
 use Rattle.r4_base.specs.declared.key.Key.{Key}
-use Rattle.r4_branch.specs.Pieces.{AreTwigPieces, names_of, twig_bytes}
-use Rattle.r4_branch.specs.declared.piece.TwigPiece.{TwigPiece}
-use Rattle.r4_cell.specs.Seen.{CellSeen, node_of}
+use Rattle.r4_build.specs.r4_branch.Pieces.{AreTwigPieces, names_of, twig_bytes}
+use Rattle.r4_build.specs.r4_branch.declared.piece.TwigPiece.{TwigPiece}
+use Rattle.r4_extent_build.specs.r4_cell.Seen.{CellSeen, node_of}
 use Rattle.r4_content.specs.Edited.{Edits}
-use Rattle.r4_edit.specs.Extents.{given_cells}
+use Rattle.r4_extent_build.specs.r4_edit.Extents.{given_cells}
 use Rattle.r4_extent_build.specs.Numbering.{block_name, cells_coming, is_coming, names_coming}
 use Rattle.r4_extent_build.specs.r4_twig_turns.Turning.{IsTurnOf}
 use Rattle.r4_extent_build.proofs.GrowingTurns.{cells_whole}
 use Rattle.r4_extent_build.proofs.Numbers.{cells_named, names_count, names_off, names_on}
-use Rattle.r4_patch.specs.Joining.{ids_of}
-use Rattle.r4_patch.proofs.Members.{cases, have_names, none}
-use Rattle.r4_path.specs.Steps.{IsNameOf, name_of}
-use Rattle.r4_path.proofs.Grown.{map_names, names_map}
-use Rattle.r4_path.proofs.Rising.{hi_is, id_member, lo_is}
-use Rattle.r4_reach.specs.Touched.{Body}
+use Rattle.r4_build.specs.r4_patch.Joining.{ids_of}
+use Rattle.r4_build.proofs.r4_patch.Members.{cases, have_names, none}
+use Rattle.r4_build.specs.r4_path.Steps.{IsNameOf, name_of}
+use Rattle.r4_build.proofs.r4_path.Grown.{map_names, names_map}
+use Rattle.r4_build.proofs.r4_path.Rising.{hi_is, id_member, lo_is}
+use Rattle.r4_build.specs.r4_reach.Touched.{Body}
 use Rattle.r4_extent_turn.specs.Turning.{AreKept, IsTurnFor, IsTurningBody, Kept, Turn, blocks_turned, kept_cells, leaves_of, numbered}
 use Rattle.r4_extent_turn.specs.Turning.{set_over, tails_of, told_extent, told_pieces, turning_turn}
 use Rattle.r4_extent_turn.proofs.Comes.{come_names, new, qs, qs_names, qs_pieces}

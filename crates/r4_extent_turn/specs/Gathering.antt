@@ -4,12 +4,12 @@ use Rattle.std.specs.Prelude.{◌≡◌, ℕ, List, [], ◌∷◌}
 use Rattle.std.specs.List.{flat_map}
 use Rattle.std.specs.Option.{option_or}
 use Rattle.r4_base.specs.Value.{Byte}
-use Rattle.r4_cell.specs.Seen.{CellSeen, node_of}
+use Rattle.r4_extent_build.specs.r4_cell.Seen.{CellSeen, node_of}
 use Rattle.r4_content.specs.Edited.{Pairs}
 use Rattle.r4_content.specs.Held.{run_pairs}
 use Rattle.r4_content.specs.Seen.{pairs_in}
 use Rattle.r4_content.specs.declared.edits.ByteRun.{ByteRun}
-use Rattle.r4_extent_blocks.specs.Setting.{last_put}
+use Rattle.r4_extent_build.specs.r4_extent_blocks.Setting.{last_put}
 
 -- what leaves have from one key up to another, one leaf's units behind the other's
 abbrev pub units_within : (from to : ℕ) → List CellSeen → Pairs

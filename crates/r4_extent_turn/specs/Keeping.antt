@@ -2,11 +2,11 @@
 -- in extents").
 use Rattle.std.specs.Prelude.{◌≡◌, ℕ, ◌+◌, List, length, Option, option_map}
 use Rattle.r4_base.specs.declared.key.Key.{Key}
-use Rattle.r4_cell.specs.Seen.{CellSeen}
-use Rattle.r4_cell.specs.declared.change.Fresh.{Fresh}
-use Rattle.r4_edit.specs.Extents.{given_cells}
-use Rattle.r4_edit.specs.LeafParts.{HasLeft, HasRight}
-use Rattle.r4_extent_edit.specs.Turning.{last_leaf}
+use Rattle.r4_extent_build.specs.r4_cell.Seen.{CellSeen}
+use Rattle.r4_extent_build.specs.r4_cell.declared.change.Fresh.{Fresh}
+use Rattle.r4_extent_build.specs.r4_edit.Extents.{given_cells}
+use Rattle.r4_extent_build.specs.r4_edit.LeafParts.{HasLeft, HasRight}
+use Rattle.r4_extent_build.specs.r4_extent_edit.Turning.{last_leaf}
 use Rattle.r4_extent_turn.specs.Turning.{with_id}
 
 -- It is the part of the leaf before a key, if there is one, under this number.

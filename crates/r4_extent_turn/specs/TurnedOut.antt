@@ -4,32 +4,32 @@ use Rattle.std.specs.Prelude.{◌≡◌, ◌+◌, ◌<◌, ◌≤◌, Contains, 
 use Rattle.r4_base.specs.Tree.{Root, Store}
 use Rattle.r4_base.specs.Value.{Value}
 use Rattle.r4_build.specs.Making.{StaysOf}
-use Rattle.r4_cell.specs.Patch.{HaveNames}
-use Rattle.r4_cell.specs.Seen.{CellSeen}
-use Rattle.r4_cell.specs.declared.change.Fresh.{Fresh}
+use Rattle.r4_extent_build.specs.r4_cell.Patch.{HaveNames}
+use Rattle.r4_extent_build.specs.r4_cell.Seen.{CellSeen}
+use Rattle.r4_extent_build.specs.r4_cell.declared.change.Fresh.{Fresh}
 use Rattle.r4_content.specs.Edited.{Edits}
 use Rattle.r4_extent_build.specs.r4_twig_turns.Turning.{behind}
-use Rattle.r4_measure.specs.Budget.{Budget, most_from}
-use Rattle.r4_measure.specs.Grafting.{IsQuietBelow}
-use Rattle.r4_measure.specs.Measured.{IsMeasured}
-use Rattle.r4_patch.specs.Joining.{ids_of}
-use Rattle.r4_reach.specs.Touched.{Body}
-use Rattle.r4_work.specs.Working.{root_of, standing}
-use Rattle.r4_work.specs.declared.working.WorkingSet.{WorkingSet}
+use Rattle.r4_build.specs.r4_measure.Budget.{Budget, most_from}
+use Rattle.r4_build.specs.r4_measure.Grafting.{IsQuietBelow}
+use Rattle.r4_build.specs.r4_measure.Measured.{IsMeasured}
+use Rattle.r4_build.specs.r4_patch.Joining.{ids_of}
+use Rattle.r4_build.specs.r4_reach.Touched.{Body}
+use Rattle.r4_build.specs.r4_work.Working.{root_of, standing}
+use Rattle.r4_build.specs.r4_work.declared.working.WorkingSet.{WorkingSet}
 use Rattle.r4_extent_turn.specs.Turning.{Kept, Turn, blocks_turned, kept_cells, leaves_of, numbered}
 use Rattle.r4_extent_turn.specs.Turning.{turning_turn}
 
 -- The set after it is measured for the numbers that are left, and still nothing more comes below
--- twigs. In the end there may be no more cells than before, and the blocks that came and what stays
--- of the leaves. Each leaf that stood and has none of their numbers stands, and so does what stays
--- of them: leaves, each of a number that was taken, no two of one. What was of some cells is still
--- of them.
+-- twigs. In the end there may be no more cells than before, without the leaves, which went, and
+-- with the blocks that came and what stays of the leaves. Each leaf that stood and has none of
+-- their numbers stands, and so does what stays of them: leaves, each of a number that was taken, no
+-- two of one. What was of some cells is still of them.
 pub record LeavesLeaves (b : Body) (e : Edits) (u : Budget) (t : Store Value) (r : Root) (f : Fresh)
     (w now : WorkingSet) (x : Turn) (s : Kept) : Type 0 where
   pub left : Budget
   pub measured : IsMeasured t r (behind (turning_turn b e x s) f) now left
   pub quiet : IsQuietBelow left
-  pub few : most_from left (root_of now r) (standing now)
+  pub few : most_from left (root_of now r) (standing now) + length (leaves_of x)
       ≤ most_from u (root_of w r) (standing w) + (blocks_turned b e + length (kept_cells s))
   pub leaves : (c : CellSeen) → Contains (standing w) c → c.level ≡ 1
       → (Contains (ids_of (leaves_of x)) c.id → ⊥) → Contains (standing now) c

@@ -9,28 +9,28 @@ use Rattle.r4_base.specs.Tree.{IsNode}
 use Rattle.r4_base.specs.Value.{Byte, Value}
 use Rattle.r4_base.specs.Volume.{blocks_for}
 use Rattle.r4_base.specs.declared.key.Key.{Key}
-use Rattle.r4_branch.specs.declared.piece.TwigPart.TheVariants.{Pointer}
-use Rattle.r4_branch.specs.declared.piece.TwigPiece.{TwigPiece}
-use Rattle.r4_cell.specs.Patch.{HaveNames}
-use Rattle.r4_cell.specs.Seen.{CellSeen, node_of}
+use Rattle.r4_build.specs.r4_branch.declared.piece.TwigPart.TheVariants.{Pointer}
+use Rattle.r4_build.specs.r4_branch.declared.piece.TwigPiece.{TwigPiece}
+use Rattle.r4_extent_build.specs.r4_cell.Patch.{HaveNames}
+use Rattle.r4_extent_build.specs.r4_cell.Seen.{CellSeen, node_of}
 use Rattle.r4_content.specs.Edited.{Edits, Intervals, Pairs}
 use Rattle.r4_content.specs.Objects.{byte_pairs}
-use Rattle.r4_edit.specs.Extents.{given_cells, pointer_to}
-use Rattle.r4_edit.specs.LeafParts.{HasLeft, HasRight}
-use Rattle.r4_extent_blocks.specs.Setting.{byte_set}
+use Rattle.r4_extent_build.specs.r4_edit.Extents.{given_cells, pointer_to}
+use Rattle.r4_extent_build.specs.r4_edit.LeafParts.{HasLeft, HasRight}
+use Rattle.r4_extent_build.specs.r4_extent_blocks.Setting.{byte_set}
 use Rattle.r4_extent_build.specs.Growing.{end_after}
 use Rattle.r4_extent_build.specs.Numbering.{cells_coming, coming_count, with_numbers}
 use Rattle.r4_extent_build.specs.Setting.{is_hole_of}
 use Rattle.r4_extent_build.specs.r4_twig_turns.Turning.{TwigTurn}
-use Rattle.r4_extent_demands.specs.Sizes.{IsFirstKey, IsSizedBody}
-use Rattle.r4_extent_edit.specs.Between.{pieces_over}
-use Rattle.r4_extent_edit.specs.Turning.{AreAround, last_leaf}
-use Rattle.r4_leaf.specs.Units.{is_between}
-use Rattle.r4_patch.specs.Effect.{Placed}
-use Rattle.r4_path.specs.Steps.{Follow, name_of}
-use Rattle.r4_path.specs.TwigPieces.{ArePiecesOf, twig_pieces}
-use Rattle.r4_reach.specs.Needs.{gets_bytes, runs}
-use Rattle.r4_reach.specs.Touched.{Body, first_byte, turns_out}
+use Rattle.r4_extent_build.specs.r4_extent_demands.Sizes.{IsFirstKey, IsSizedBody}
+use Rattle.r4_extent_build.specs.r4_extent_edit.Between.{pieces_over}
+use Rattle.r4_extent_build.specs.r4_extent_edit.Turning.{AreAround, last_leaf}
+use Rattle.r4_build.specs.r4_leaf.Units.{is_between}
+use Rattle.r4_build.specs.r4_patch.Effect.{Placed}
+use Rattle.r4_build.specs.r4_path.Steps.{Follow, name_of}
+use Rattle.r4_build.specs.r4_path.TwigPieces.{ArePiecesOf, twig_pieces}
+use Rattle.r4_build.specs.r4_reach.Needs.{gets_bytes, runs}
+use Rattle.r4_build.specs.r4_reach.Touched.{Body, first_byte, turns_out}
 use Rattle.r4_extent_turn.specs.Gathering.{units_within}
 
 -- The body stands in extents afterwards, and stood in tails or had no bytes; its first key is

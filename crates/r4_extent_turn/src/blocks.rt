@@ -4,17 +4,16 @@ ghost use Rattle.std.specs.Prelude.{◌≡◌, ◌+◌, ◌^◌, ◌<◌, ◌++�
 ghost use Rattle.std.specs.Arc.{arc_value};
 ghost use Rattle.r4_base.specs.Key.{offset_of};
 ghost use Rattle.r4_content.specs.Held.{edits_of};
-ghost use Rattle.r4_extent_blocks.specs.Setting.{new_cell};
+ghost use Rattle.r4_extent_build.specs.r4_extent_blocks.Setting.{new_cell};
 ghost use Rattle.r4_extent_build.specs.Numbering.{CanNumber, IsNumbered, block_of, is_told_block};
 ghost use Rattle.r4_extent_turn.specs.Turning.{set_over};
 
 use r4_base::{Key, Memory, NodeId, UNPLACED, Unit};
-use r4_branch::{TwigPart, TwigPiece};
-use r4_cell::{Cell, Fresh};
+use r4_build::take_number;
 use r4_content::Edits;
-use r4_extent_blocks::{new_block, overwritten, sets_bytes};
-use r4_extent_build::NumberedTwig;
-use r4_path::take_number;
+use r4_extent_build::{
+    Cell, Fresh, NumberedTwig, TwigPart, TwigPiece, new_block, overwritten, sets_bytes,
+};
 use std::alloc::Global;
 use std::sync::Arc;
 

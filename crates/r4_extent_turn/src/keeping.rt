@@ -5,18 +5,17 @@ ghost use Rattle.std.specs.Arc.{arc_value};
 ghost use Rattle.std.specs.Option.{option_map};
 ghost use Rattle.r4_base.specs.Key.{rank};
 ghost use Rattle.r4_base.specs.Value.{Value};
-ghost use Rattle.r4_cell.specs.Seen.{CellSeen, node_of};
-ghost use Rattle.r4_edit.specs.Extents.{given_cells};
-ghost use Rattle.r4_edit.specs.LeafParts.{HasRight};
-ghost use Rattle.r4_extent_edit.specs.Turning.{AreEnds};
-ghost use Rattle.r4_path.specs.Sharing.{IsSound};
+ghost use Rattle.r4_extent_build.specs.r4_cell.Seen.{CellSeen, node_of};
+ghost use Rattle.r4_extent_build.specs.r4_edit.Extents.{given_cells};
+ghost use Rattle.r4_extent_build.specs.r4_edit.LeafParts.{HasRight};
+ghost use Rattle.r4_extent_build.specs.r4_extent_edit.Turning.{AreEnds};
+ghost use Rattle.r4_build.specs.r4_path.Sharing.{IsSound};
 ghost use Rattle.r4_extent_turn.specs.Keeping.{HasLeftUnder, KeepsEnds};
 ghost use Rattle.r4_extent_turn.specs.Turning.{with_id};
 
 use r4_base::{Key, LEAF, Memory, NodeId};
-use r4_cell::{Cell, Fresh, new_cell};
-use r4_edit::{LeafParts, left_part, right_part};
-use r4_path::take_number;
+use r4_build::{LeafParts, left_part, right_part, take_number};
+use r4_extent_build::{Cell, Fresh, new_cell};
 use std::alloc::Global;
 use std::sync::Arc;
 

@@ -5,22 +5,22 @@ ghost use Rattle.std.specs.Prelude.{ℕ, ◌+◌, ◌*◌, ◌^◌, ◌≤◌, L
 ghost use Rattle.r4_base.specs.Tree.{Name, Root as TreeRoot, Store};
 ghost use Rattle.r4_base.specs.Value.{Value};
 ghost use Rattle.r4_base.specs.declared.key.Key.{Key};
-ghost use Rattle.r4_branch.specs.Pieces.{twig_bytes};
-ghost use Rattle.r4_cell.specs.Seen.{node_of};
-ghost use Rattle.r4_cell.specs.declared.change.Fresh.{Fresh};
+ghost use Rattle.r4_build.specs.r4_branch.Pieces.{twig_bytes};
+ghost use Rattle.r4_extent_build.specs.r4_cell.Seen.{node_of};
+ghost use Rattle.r4_extent_build.specs.r4_cell.declared.change.Fresh.{Fresh};
 ghost use Rattle.r4_content.specs.Edited.{Edits};
-ghost use Rattle.r4_edit.specs.Extents.{given_cells};
+ghost use Rattle.r4_extent_build.specs.r4_edit.Extents.{given_cells};
 ghost use Rattle.r4_extent_build.specs.Looping.{AreTurned};
 ghost use Rattle.r4_extent_build.specs.r4_twig_turns.Turning.{IsReady, IsTurnOf, TurnAtMost};
 ghost use Rattle.r4_extent_build.specs.r4_twig_turns.Turning.{come_at_most};
-ghost use Rattle.r4_measure.specs.Budget.{Budget, most_from};
-ghost use Rattle.r4_path.specs.Grafts.{extra_twigs};
-ghost use Rattle.r4_reach.specs.Needs.{Ask, pieces_after};
-ghost use Rattle.r4_reach.specs.Touched.{Body};
-ghost use Rattle.r4_twig_work.specs.Regrafting.{SetsBelow};
-ghost use Rattle.r4_work.specs.Remaking.{Changes};
-ghost use Rattle.r4_work.specs.Working.{IsWorking, root_of, standing};
-ghost use Rattle.r4_work.specs.declared.working.WorkingSet.{WorkingSet};
+ghost use Rattle.r4_build.specs.r4_measure.Budget.{Budget, most_from};
+ghost use Rattle.r4_build.specs.r4_path.Grafts.{extra_twigs};
+ghost use Rattle.r4_build.specs.r4_reach.Needs.{Ask, pieces_after};
+ghost use Rattle.r4_build.specs.r4_reach.Touched.{Body};
+ghost use Rattle.r4_extent_build.specs.r4_twig_work.Regrafting.{SetsBelow};
+ghost use Rattle.r4_build.specs.r4_work.Remaking.{Changes};
+ghost use Rattle.r4_build.specs.r4_work.Working.{IsWorking, root_of, standing};
+ghost use Rattle.r4_build.specs.r4_work.declared.working.WorkingSet.{WorkingSet};
 ghost use Rattle.r4_extent_turn.specs.Turning.{AreKept, IsTurnFor, IsTurningBody, Kept, Turn};
 ghost use Rattle.r4_extent_turn.specs.Turning.{in_turned};
 ghost use Rattle.r4_extent_turn.specs.Turning.{told_pieces, turned_values, turning_turn};
@@ -92,8 +92,8 @@ pub fn measured_turns_may_be_made()
 
 /// It leaves a measured set, in which the leaves stand that stood and were not turned, and what
 /// stays of those that were: so the edits of leaves may follow, with the numbers that are left. No
-/// more cells may stand in the end than before, and the blocks that came and what stays of the
-/// leaves.
+/// more cells may stand in the end than before, without the leaves, which went, and with the blocks
+/// that came and what stays of the leaves.
 pub fn turned_bodies_leave_leaves()
     ensures { (b : Body) (first : Key) (e : Edits) (t : Store Value) (r : TreeRoot) (x : Turn)
         (s : Kept) (f : Fresh) (w now : WorkingSet) (u : Budget)

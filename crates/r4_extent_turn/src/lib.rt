@@ -13,4 +13,7 @@ pub use laws::{
     turned_twigs_set_bytes, turning_turns_set_bytes, turning_twigs_are_ready,
     turning_twigs_have_their_turn, turns_of_parts,
 };
+pub use r4_build::{Change, add, make_each};
+pub use r4_extent_build::WorkingSet;
+pub use r4_sight::parts_of;
 pub use turning::{Turning, turn_out};

@@ -6,15 +6,15 @@ ghost use Rattle.std.specs.List.{flat_map};
 ghost use Rattle.std.specs.Option.{option_or};
 ghost use Rattle.r4_base.specs.Key.{rank};
 ghost use Rattle.r4_base.specs.Value.{Value as ValueSeen, value_of};
-ghost use Rattle.r4_cell.specs.Seen.{CellSeen, node_of};
+ghost use Rattle.r4_extent_build.specs.r4_cell.Seen.{CellSeen, node_of};
 ghost use Rattle.r4_content.specs.Held.{edits_of, part_pairs, run_pairs};
 ghost use Rattle.r4_content.specs.Seen.{pairs_in};
-ghost use Rattle.r4_extent_blocks.specs.Setting.{byte_of, byte_set, last_put};
+ghost use Rattle.r4_extent_build.specs.r4_extent_blocks.Setting.{byte_of, byte_set, last_put};
 ghost use Rattle.r4_extent_turn.specs.Gathering.{Adds, byte_pair, units_within};
 
 use r4_base::{Bytes, Key, Memory, Value};
-use r4_cell::Cell;
 use r4_content::{ByteRun, Edits, Interval, Reply, SeenPart};
+use r4_extent_build::Cell;
 use r4_sight::parts_of;
 use std::alloc::Global;
 use std::sync::Arc;

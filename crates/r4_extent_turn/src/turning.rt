@@ -8,17 +8,17 @@ ghost use Rattle.std.specs.Option.{option_map};
 ghost use Rattle.r4_base.specs.Key.{key_of_rank, rank};
 ghost use Rattle.r4_base.specs.Tree.{Root as TreeRoot, Store};
 ghost use Rattle.r4_base.specs.Value.{Value};
-ghost use Rattle.r4_branch.specs.declared.piece.TwigPiece.{TwigPiece as PieceSeen};
+ghost use Rattle.r4_build.specs.r4_branch.declared.piece.TwigPiece.{TwigPiece as PieceSeen};
 ghost use Rattle.r4_content.specs.Held.{edits_of};
-ghost use Rattle.r4_edit.specs.Extents.{pointer_to};
+ghost use Rattle.r4_extent_build.specs.r4_edit.Extents.{pointer_to};
 ghost use Rattle.r4_extent_build.specs.Setting.{is_hole_of};
-ghost use Rattle.r4_extent_demands.specs.Sizes.{IsSizedBody};
-ghost use Rattle.r4_extent_edit.specs.Between.{pieces_over};
-ghost use Rattle.r4_graft.specs.Splices.{IsBorder};
-ghost use Rattle.r4_leaf.specs.Units.{is_between};
-ghost use Rattle.r4_path.specs.TwigPieces.{twig_pieces};
-ghost use Rattle.r4_reach.specs.Touched.{Body, first_byte};
-ghost use Rattle.r4_twig_work.specs.Regrafting.{beside_of};
+ghost use Rattle.r4_extent_build.specs.r4_extent_demands.Sizes.{IsSizedBody};
+ghost use Rattle.r4_extent_build.specs.r4_extent_edit.Between.{pieces_over};
+ghost use Rattle.r4_extent_build.specs.r4_graft.Splices.{IsBorder};
+ghost use Rattle.r4_build.specs.r4_leaf.Units.{is_between};
+ghost use Rattle.r4_build.specs.r4_path.TwigPieces.{twig_pieces};
+ghost use Rattle.r4_build.specs.r4_reach.Touched.{Body, first_byte};
+ghost use Rattle.r4_extent_build.specs.r4_twig_work.Regrafting.{beside_of};
 ghost use Rattle.r4_base.specs.declared.key.Key.{Key as KeySeen};
 ghost use Rattle.r4_extent_turn.specs.Turning.{IsTurnFor, IsTurningBody, left_pointer, told_extent};
 ghost use Rattle.r4_extent_turn.specs.TurningIn.{CanTurnOut, HasTurnedOut, IsMadeFor};
@@ -28,17 +28,14 @@ use crate::blocks::number_each;
 use crate::keeping::ends_kept;
 use crate::tails::tails_in;
 use r4_base::{Key, Memory, NodeId};
-use r4_branch::{TwigPart, TwigPiece};
-use r4_cell::{Cell, Fresh};
+use r4_build::{
+    LeafParts, add, add_pointer, cells_of, pieces_of_cell, pieces_parted, place_of, splice,
+};
 use r4_content::{Edits, Interval};
-use r4_edit::{LeafParts, add_pointer, cells_of, pieces_parted};
-use r4_extent_build::NumberedTwig;
-use r4_extent_demands::{SizedBody, pieces_after};
-use r4_graft::{place_of, splice};
-use r4_leaf::KeyRange;
-use r4_path::{add, pieces_of_cell};
-use r4_twig_work::{Below, regraft};
-use r4_work::WorkingSet;
+use r4_extent_build::{
+    Below, Cell, Fresh, KeyRange, NumberedTwig, SizedBody, TwigPart, TwigPiece, WorkingSet,
+    pieces_after, regraft,
+};
 use std::alloc::Global;
 use std::sync::Arc;
 

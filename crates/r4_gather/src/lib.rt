@@ -9,4 +9,5 @@ mod sight;
 mod ways;
 
 pub use commands::see_for;
+pub use r4_file::plan;
 pub use sight::{Asked, Sight};

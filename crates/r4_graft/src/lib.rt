@@ -5,5 +5,7 @@ mod parting;
 mod splicing;
 
 pub use parting::part_at;
-pub use r4_branch::{Twig, TwigPart, TwigPiece, extent_pieces, pack_twigs, pieces_of};
+pub use r4_branch::{
+    ItemView, NodeMut, NodeView, Twig, TwigPart, TwigPiece, extent_pieces, pack_twigs, pieces_of,
+};
 pub use splicing::{place_of, splice};

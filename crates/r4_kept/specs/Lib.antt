@@ -28,3 +28,4 @@ pub use Rattle.r4_durable.specs.r4_sets_told
 pub use Rattle.r4_durable.specs.r4_space
 pub use Rattle.r4_history.specs.r4_trace
 pub use Rattle.r4_history.specs.r4_turns
+pub use Rattle.r4_suited.specs as r4_suited

@@ -11,3 +11,7 @@ pub use Rattle.r4_suited.proofs.r4_leaf_edits
 pub use Rattle.r4_marking.proofs.r4_reach
 pub use Rattle.r4_marking.proofs.r4_search
 pub use Rattle.r4_suited.proofs as r4_suited
+pub use Rattle.r4_marking.proofs as r4_marking
+pub use Rattle.r4_leaf.proofs as r4_leaf
+pub use Rattle.r4_suited.proofs.r4_patch
+pub use Rattle.r4_marking.proofs.r4_path

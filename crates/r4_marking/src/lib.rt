@@ -9,3 +9,5 @@ mod marking;
 pub use demands::{Asking, Demands, Heard};
 pub use hearing::child_at;
 pub use marking::{Marks, mark};
+pub use r4_node40::NodeView;
+pub use r4_search::{FetchFault, Pool};

@@ -12,7 +12,9 @@ pub use laws::{
     turns_keep_the_measure, what_is_asked_is_a_budget,
 };
 pub use r4_reach::{Cell, Cells, Change, Fresh};
-pub use r4_work::{WorkingSet, by_place};
+pub use r4_work::{
+    LeafParts, WorkingSet, add_pointer, by_place, cells_of, left_part, pieces_parted, right_part,
+};
 pub use twig_laws::{
     a_budget_suffices_for_twigs, grafts_keep_a_budget, twig_turns_keep_the_measure,
     what_is_asked_of_twigs_is_a_budget,

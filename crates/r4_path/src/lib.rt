@@ -35,7 +35,7 @@ pub use r4_leaf::{
     Given, KeyRange, Leaf, NodeMut, NodeView, cut_out, insert, middle_key, put_in, remake,
     tail_part, write_stat,
 };
-pub use r4_patch::{Cell, Cells, Change, Fresh, follow, new_cell};
+pub use r4_patch::{Cell, Cells, Change, Fresh, Root, follow, least, new_cell};
 pub use row::Row;
 pub use sharing::{pair, two};
 pub use twig_laws::{

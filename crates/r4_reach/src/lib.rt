@@ -10,5 +10,6 @@ pub use laws::{
     reach_rests_on_its_cells, touched_keys_are_held, written_cells_suffice,
 };
 pub use r4_path::{
-    Cell, Cells, Change, Fresh, Given, KeyRange, insert, pieces_of_cell, tail_part, write_stat,
+    Cell, Cells, Change, Fresh, Given, KeyRange, Leaf, Level, Root, add, insert, leaf_level, least,
+    pieces_of_cell, place_of, put_among, remake, splice, tail_part, take_number, write_stat,
 };

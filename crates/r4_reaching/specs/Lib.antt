@@ -14,3 +14,5 @@ pub use Rattle.r4_touching.specs.r4_seeing
 pub use Rattle.r4_spared.specs as r4_spared
 pub use Rattle.r4_touching.specs as r4_touching
 pub use Rattle.r4_spared.specs.r4_work
+pub use Rattle.r4_cell.specs as r4_cell
+pub use Rattle.r4_search.specs as r4_search

@@ -15,6 +15,8 @@ pub use laws::{
     what_was_seen_stands,
 };
 pub use parting::part_met;
+pub use r4_cell::{Cell, Cells, Root, least};
+pub use r4_search::{FetchFault, Pool};
 pub use r4_spared::commands_change_lawful_keys;
 pub use r4_touching::touch;
 pub use reached::Reach;

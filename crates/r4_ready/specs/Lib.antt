@@ -12,3 +12,4 @@ pub use Rattle.r4_serve.specs.r4_extent_reaching
 pub use Rattle.r4_serve.specs.r4_reaching
 pub use Rattle.r4_serve.specs as r4_serve
 pub use Rattle.r4_taking.specs as r4_taking
+pub use Rattle.r4_taking.specs.r4_suited

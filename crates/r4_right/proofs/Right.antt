@@ -4,8 +4,9 @@ use Rattle.std.proofs.Common.{Contains, refl, sym, ◌∙◌, ap, subst, arith, 
 use Rattle.std.specs.Arc.{arc_value}
 use Rattle.std.proofs.lemmas.Option.{none-some}
 use Rattle.std.proofs.lemmas.Bool.{cond-false}
-use Rattle.r4_applied.specs.Applying.{CanApply, IsBuiltOver, IsOfTask, IsTaskOf}
-use Rattle.r4_applied.proofs.Applied.{born_are, gone_are, reply_is}
+use Rattle.r4_applied.specs.Applying.{CanApply, IsBuiltOver}
+use Rattle.r4_applied.specs.r4_build.Built.{IsOfTask, IsTaskOf}
+use Rattle.r4_applied.proofs.Over.{born_are, gone_are, reply_is}
 use Rattle.r4_applied.proofs.InSession.{applies}
 use Rattle.r4_atoms.specs.Atoms.{account_of, atom_of, is_sealed, owner_of}
 use Rattle.r4_atoms.specs.declared.things.Account.{Account}

@@ -22,3 +22,4 @@ pub use Rattle.r4_core.specs.r4_serve
 pub use Rattle.r4_core.specs.r4_start
 pub use Rattle.r4_core.specs.r4_taking
 pub use Rattle.r4_core.specs.r4_trace
+pub use Rattle.r4_core.specs.r4_suited

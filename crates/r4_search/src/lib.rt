@@ -13,4 +13,4 @@ pub use inside::{Child, child_of, place_of};
 pub use keeping::{Keeping, fault_of_place};
 pub use pool::{FetchFault, Pool};
 pub use r4_base::{BlockNo, CellFault, Key, NodeId};
-pub use r4_cell::{Cell, Root, least};
+pub use r4_cell::{Cell, Root, least, top};

@@ -6,7 +6,7 @@ mod looking;
 mod places;
 mod seeing;
 
-pub use r4_gather::{Asked, see_for};
+pub use r4_gather::{Asked, plan, see_for};
 pub use r4_search::{FetchFault, Pool, cover};
-pub use r4_sight::key_after;
+pub use r4_sight::{key_after, stretch_from};
 pub use seeing::Seeing;

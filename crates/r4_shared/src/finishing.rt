@@ -8,9 +8,10 @@ ghost use Rattle.r4_apply.specs.r4_trace.Legal.{IsWhole};
 ghost use Rattle.r4_turns.specs.Turns.{IsScript};
 
 use crate::stepping::{Next, bring_back, next_step};
-use r4_apply::{Core, Step, build, flush, recall};
+use r4_apply::{Core, Step, flush, recall};
 use r4_base::{Memory, ScriptNo};
 use r4_history::runs_are_whole;
+use r4_made::make;
 use r4_outside::{Device, Gate, Run};
 use r4_turns::Turns;
 use std::alloc::Global;
@@ -51,7 +52,7 @@ fn serve_rest<D: Device, R: Run, G: Gate, X: Wait>(
     for _ in rt.forever() {
         match next_step(core, alloc)? {
             Next::Finished | Next::Wait(_) => return Ok(()),
-            Next::Work(task) => bring_back(core, alloc, build(alloc, gate, task)),
+            Next::Work(task) => bring_back(core, alloc, make(alloc, gate, task)),
             Next::Flushed(_) => end_commit(rt, core),
             Next::Replied(_) | Next::Unflushed(_) => (),
         }

@@ -3,8 +3,9 @@
 ghost use Rattle.r4_apply.specs.r4_take.Sending.{CanBeBuilt};
 
 use crate::stepping::{Next, bring_back, next_step};
-use r4_apply::{Core, Step, Task, build};
+use r4_apply::{Core, Step, Task};
 use r4_base::Memory;
+use r4_made::make;
 use r4_outside::{Device, Gate, Run};
 use std::alloc::Global;
 use std::sync::{Condvar, Mutex, Wait};
@@ -56,7 +57,7 @@ impl<D: Device, R: Run> Shared<D, R> {
     fn work<X: Wait, G: Gate>(&self, rt: &X, alloc: Global, gate: &G, task: Task)
         requires { CanBeBuilt task }
     {
-        let built = build(alloc, gate, task);
+        let built = make(alloc, gate, task);
         bring_back(&mut *self.core.lock(rt), alloc, built);
         self.changed.notify_all();
     }

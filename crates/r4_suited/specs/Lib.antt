@@ -3,3 +3,4 @@ pub mod Suited
 pub use Rattle.r4_leaf_edits.specs as r4_leaf_edits
 pub use Rattle.r4_leaf_edits.specs.r4_patch
 pub use Rattle.r4_leaf_edits.specs.r4_reach
+pub use Rattle.r4_leaf_edits.specs.r4_cell

@@ -23,6 +23,7 @@ use Rattle.r4_seal.specs.r4_kept.View.{CoreSeen}
 use Rattle.r4_seal.specs.r4_leaf_edits.Suiting.{SuitLeaves}
 use Rattle.r4_outside.specs.Device.{State}
 use Rattle.r4_seal.specs.r4_reach.Touched.{edits_on}
+use Rattle.r4_seal.specs.r4_suited.Suited.{AreLawfulSeen}
 use Rattle.r4_seal.proofs.r4_suited.Suits.{told_suits}
 use Rattle.r4_seal.specs.r4_taking.GoingOut.{HasGoneOut}
 use Rattle.r4_turns.specs.Turns.{IsScript, commands_at, gone_out, turn_at}
@@ -87,6 +88,9 @@ module _ {D : Type 0} (r : Naming) (d : State) (c : CoreSeen D) (k : IsKept r d 
     root = g.root;
     is_task = is_task;
     rises = subst Rises same_seen g.reach.sees.rises;
+    paths = subst HasBytePaths (sym command) paths;
+    lawful = subst (λ (z : Command). AreLawfulSeen z (pairs_of (arc_value task.seen))) (sym command)
+        (subst (AreLawfulSeen named) same_seen g.lawful);
     suits = λ leaves. subst (SuitLeaves 16384) same
         (told_suits named g.reach.seen out.scope.in_extents None paths g.reach.sees.rises g.lawful
         (sym (g.can.leaves (ap (λ (z : Scope). z.in_leaves) (sym scope) ∙ leaves)).tails));

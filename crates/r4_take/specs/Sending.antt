@@ -6,9 +6,11 @@ use Rattle.r4_seal.specs.r4_build.Built.{IsTaskIn, edits_for}
 use Rattle.r4_seal.specs.r4_build.declared.task.Task.{Task}
 use Rattle.r4_cell.specs.Patch.{by_name, root_of_pair}
 use Rattle.r4_cell.specs.declared.change.Root.{Root}
+use Rattle.r4_content.specs.Fields.{HasBytePaths}
 use Rattle.r4_content.specs.Held.{pairs_of as seen_pairs}
 use Rattle.r4_content.specs.Seen.{Rises}
 use Rattle.r4_seal.specs.r4_leaf_edits.Suiting.{SuitLeaves}
+use Rattle.r4_seal.specs.r4_suited.Suited.{AreLawfulSeen}
 use Rattle.r4_seal.specs.r4_buffer.Seen.{cells_of}
 use Rattle.r4_content.specs.Meaning.{makes_object, with_id}
 use Rattle.r4_cell.specs.Seen.{CellSeen}
@@ -149,13 +151,15 @@ pub record IsLent
     pub scope : task.scope ≡ given.scope
     pub fresh : task.fresh ≡ given.numbers.fresh
 
--- It can be built in a part of a tree, with the task's numbers; where all that it changes lies in leaves, these can
--- take its edits.
+-- It can be built in a part of a tree, with the task's numbers: its paths are of bytes, and what was seen is lawful. Where
+-- all that it changes lies in leaves, these can take its edits.
 pub record CanBeBuilt (task : Task) : Type 0 where
   pub met : List CellSeen
   pub root : Root
   pub is_task : IsTaskIn (by_name met) (root_of_pair root) task
   pub rises : Rises (seen_pairs (arc_value task.seen))
+  pub paths : HasBytePaths task.command
+  pub lawful : AreLawfulSeen task.command (seen_pairs (arc_value task.seen))
   pub suits : task.scope.in_leaves ≡ true → SuitLeaves 16384 (edits_for task)
 
 -- Room was made. A single command's transaction began. Its atom fused with each other open atom

@@ -19,3 +19,4 @@ pub use Rattle.r4_kept.specs.r4_sets_told
 pub use Rattle.r4_kept.specs.r4_space
 pub use Rattle.r4_kept.specs.r4_trace
 pub use Rattle.r4_kept.specs.r4_turns
+pub use Rattle.r4_kept.specs.r4_suited

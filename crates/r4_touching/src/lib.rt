@@ -5,5 +5,6 @@ mod changed;
 mod touching;
 
 pub use changed::{changed_keys, keys_asked};
-pub use r4_seeing::{Asked, Seeing, see_for};
+pub use r4_cell::{Cell, Root, least, top};
+pub use r4_seeing::{Asked, Seeing, key_after, plan, see_for, stretch_from};
 pub use touching::touch;

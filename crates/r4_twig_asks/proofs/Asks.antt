@@ -6,21 +6,21 @@ use Rattle.r4_base.specs.Key.{rank}
 use Rattle.r4_base.specs.Node.{items_of}
 use Rattle.r4_base.specs.Tree.{Name, Node}
 use Rattle.r4_base.specs.Value.{Value}
-use Rattle.r4_branch.specs.Pieces.{twig_bytes}
-use Rattle.r4_cell.specs.Seen.{CellSeen, node_of}
+use Rattle.r4_extent_demands.specs.r4_branch.Pieces.{twig_bytes}
+use Rattle.r4_extent_demands.specs.r4_cell.Seen.{CellSeen, node_of}
 use Rattle.r4_content.specs.Bodies.{larger}
 use Rattle.r4_content.specs.Edited.{Edits}
-use Rattle.r4_marking.specs.r4_path.Nodes.{weight}
-use Rattle.r4_marking.proofs.r4_path.Rising.{hi_is, lo_is}
+use Rattle.r4_extent_demands.specs.r4_marking.r4_path.Nodes.{weight}
+use Rattle.r4_extent_demands.proofs.r4_marking.r4_path.Rising.{hi_is, lo_is}
 use Rattle.r4_extent_demands.proofs.r4_leaf_demands.Weighed.{block_is, little}
-use Rattle.r4_marking.specs.r4_reach.Needs.{Ask, all_more, asking, changes_pieces, come_of, growing, meets, moves, over, pieces_after}
-use Rattle.r4_marking.specs.r4_reach.Needs.{put_among, twig_asks, twig_need}
-use Rattle.r4_marking.specs.r4_reach.Touched.{Body, is_spread}
+use Rattle.r4_extent_demands.specs.r4_marking.r4_reach.Needs.{Ask, all_more, asking, changes_pieces, come_of, growing, meets, moves, over, pieces_after}
+use Rattle.r4_extent_demands.specs.r4_marking.r4_reach.Needs.{put_among, twig_asks, twig_need}
+use Rattle.r4_extent_demands.specs.r4_marking.r4_reach.Touched.{Body, is_spread}
 use Rattle.r4_extent_demands.proofs.r4_bodies.Premises.{suits_later}
-use Rattle.r4_leaf_edits.specs.Suiting.{SuitLeaves}
-use Rattle.r4_marking.specs.Marks.{AreSmall, heard_seen, most_for}
-use Rattle.r4_marking.specs.declared.demands.Asking.{Asking}
-use Rattle.r4_marking.specs.declared.demands.Heard.{Heard}
+use Rattle.r4_extent_demands.specs.r4_leaf_edits.Suiting.{SuitLeaves}
+use Rattle.r4_extent_demands.specs.r4_marking.Marks.{AreSmall, heard_seen, most_for}
+use Rattle.r4_extent_demands.specs.r4_marking.declared.demands.Asking.{Asking}
+use Rattle.r4_extent_demands.specs.r4_marking.declared.demands.Heard.{Heard}
 use Rattle.r4_twig_asks.specs.Asking.{more_for}
 use Rattle.r4_extent_demands.specs.Sizes.{end_of_bytes}
 use Rattle.r4_extent_demands.specs.Changing.{changes_units}

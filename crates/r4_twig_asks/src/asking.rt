@@ -5,26 +5,21 @@ ghost use Rattle.std.specs.Prelude.{length, map, nat_lt};
 ghost use Rattle.std.specs.Option.{option_copied, option_map};
 ghost use Rattle.r4_base.specs.Key.{rank};
 ghost use Rattle.r4_base.specs.Node.{items_of};
-ghost use Rattle.r4_cell.specs.Seen.{node_of};
+ghost use Rattle.r4_extent_demands.specs.r4_cell.Seen.{node_of};
 ghost use Rattle.r4_content.specs.Held.{edits_of};
-ghost use Rattle.r4_marking.specs.Marks.{AreSmall, ask_seen, heard_seen, most_for};
-ghost use Rattle.r4_marking.specs.r4_reach.Needs.{asking, come_of, growing, meets, moves, twig_asks};
-ghost use Rattle.r4_marking.specs.r4_reach.Touched.{coming};
+ghost use Rattle.r4_extent_demands.specs.r4_marking.Marks.{AreSmall, ask_seen, heard_seen, most_for};
+ghost use Rattle.r4_extent_demands.specs.r4_marking.r4_reach.Needs.{asking, come_of, growing, meets, moves, twig_asks};
+ghost use Rattle.r4_extent_demands.specs.r4_marking.r4_reach.Touched.{coming};
 ghost use Rattle.r4_extent_demands.specs.Sizes.{AreExtentEdits, IsSized, IsSizedBody};
 ghost use Rattle.r4_twig_asks.specs.Asking.{more_for};
 
 use crate::weighing::twig_bytes;
 use r4_base::{Key, Memory, NODE_ROOM};
-use r4_branch::TwigPiece;
-use r4_cell::Cell;
 use r4_content::Edits;
 use r4_extent_demands::{
-    POINTER_ROOM, SizedBody, all_more, changes_some, growing, node_bytes, over, pieces_after,
-    put_among,
+    Asking, Cell, Heard, KeyRange, POINTER_ROOM, SizedBody, TwigPiece, all_more, changes_some,
+    growing, node_bytes, over, part_of, pieces_after, put_among,
 };
-use r4_leaf::KeyRange;
-use r4_leaf_edits::part_of;
-use r4_marking::{Asking, Heard};
 use std::alloc::Global;
 
 /// What a twig asks for after edits, where the leaves below it ask for this, in the order of its names: at most one for

@@ -3,11 +3,10 @@
 ghost use Rattle.std.specs.Prelude.{◌≡◌, ◌≤◌};
 ghost use Rattle.std.specs.Option.{option_map};
 ghost use Rattle.r4_base.specs.Key.{rank};
-ghost use Rattle.r4_branch.specs.Pieces.{part_bytes, twig_bytes};
+ghost use Rattle.r4_extent_demands.specs.r4_branch.Pieces.{part_bytes, twig_bytes};
 
 use r4_base::{ITEM_HEADER, Key};
-use r4_branch::{TwigPart, TwigPiece};
-use r4_extent_demands::{POINTER_ROOM, unit_end};
+use r4_extent_demands::{POINTER_ROOM, TwigPart, TwigPiece, unit_end};
 
 /// How many bytes a unit of an extent has, without a header.
 const UNIT_BYTES: u64 = 16;

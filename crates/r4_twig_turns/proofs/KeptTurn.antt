@@ -4,21 +4,21 @@ use Rattle.std.specs.Prelude.{Contains, None, length}
 use Rattle.std.proofs.lemmas.List.Elements.{Contains-append_cases}
 use Rattle.r4_base.specs.Tree.{Root, Store}
 use Rattle.r4_base.specs.Value.{Value}
-use Rattle.r4_branch.specs.declared.piece.TwigPiece.{TwigPiece}
-use Rattle.r4_cell.specs.Seen.{CellSeen}
-use Rattle.r4_cell.specs.declared.change.Change.{Change}
-use Rattle.r4_cell.specs.declared.change.Fresh.{Fresh}
-use Rattle.r4_patch.proofs.Members.{cases, here, later}
-use Rattle.r4_patch.specs.Part.{IsPart}
-use Rattle.r4_work.proofs.LeafEffect.{taken}
-use Rattle.r4_path.specs.Grafts.{extra_twigs}
-use Rattle.r4_path.specs.Steps.{Ascends, olds}
-use Rattle.r4_work.proofs.InPlace.{now_part, standing_is}
-use Rattle.r4_work.proofs.Paths.{ascends_from}
-use Rattle.r4_work.specs.Working.{now_of, root_of, standing}
-use Rattle.r4_work.specs.declared.working.WorkingSet.{WorkingSet}
+use Rattle.r4_twig_work.specs.r4_branch.declared.piece.TwigPiece.{TwigPiece}
+use Rattle.r4_twig_work.specs.r4_cell.Seen.{CellSeen}
+use Rattle.r4_twig_work.specs.r4_cell.declared.change.Change.{Change}
+use Rattle.r4_twig_work.specs.r4_cell.declared.change.Fresh.{Fresh}
+use Rattle.r4_twig_work.proofs.r4_patch.Members.{cases, here, later}
+use Rattle.r4_twig_work.specs.r4_patch.Part.{IsPart}
+use Rattle.r4_twig_work.proofs.r4_work.LeafEffect.{taken}
+use Rattle.r4_twig_work.specs.r4_path.Grafts.{extra_twigs}
+use Rattle.r4_twig_work.specs.r4_path.Steps.{Ascends, olds}
+use Rattle.r4_twig_work.proofs.r4_work.InPlace.{now_part, standing_is}
+use Rattle.r4_twig_work.proofs.r4_work.Paths.{ascends_from}
+use Rattle.r4_twig_work.specs.r4_work.Working.{now_of, root_of, standing}
+use Rattle.r4_twig_work.specs.r4_work.declared.working.WorkingSet.{WorkingSet}
 use Rattle.r4_twig_work.specs.r4_measure.Budget.{Budget, most_from}
-use Rattle.r4_patch.specs.Joining.{ids_of}
+use Rattle.r4_twig_work.specs.r4_patch.Joining.{ids_of}
 use Rattle.r4_twig_work.specs.r4_measure.Grafting.{AreGraftsIn, Beside, IsQuietBelow, IsRegrafted, comes_below}
 use Rattle.r4_twig_work.specs.r4_measure.Measured.{IsMeasured}
 use Rattle.r4_twig_work.proofs.r4_measure.Grafted.{graft_height, graft_seen}

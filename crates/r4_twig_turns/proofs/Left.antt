@@ -10,19 +10,19 @@ use Rattle.r4_base.specs.Key.{rank}
 use Rattle.r4_base.specs.Node.{items_of}
 use Rattle.r4_base.specs.Tree.{Root, Store}
 use Rattle.r4_base.specs.Value.{Value}
-use Rattle.r4_branch.specs.Pieces.{twig_bytes}
-use Rattle.r4_branch.specs.declared.piece.TwigPiece.{TwigPiece}
-use Rattle.r4_cell.specs.Patch.{place, root_after, root_of_pair}
-use Rattle.r4_cell.specs.Seen.{CellSeen, node_of}
-use Rattle.r4_cell.specs.declared.change.Change.{Change}
-use Rattle.r4_cell.specs.declared.change.Fresh.{Fresh}
-use Rattle.r4_patch.proofs.Members.{found, here, later}
-use Rattle.r4_patch.specs.Joining.{ids_of, patch_of_change}
-use Rattle.r4_patch.specs.Part.{IsPart}
-use Rattle.r4_path.proofs.Begun.{ascends_take}
-use Rattle.r4_path.proofs.Rising.{count_within, follow_within}
-use Rattle.r4_path.specs.Nodes.{IsPointable}
-use Rattle.r4_path.specs.Steps.{Ascends, IsFree, Step, fresh_ids, news, olds}
+use Rattle.r4_twig_work.specs.r4_branch.Pieces.{twig_bytes}
+use Rattle.r4_twig_work.specs.r4_branch.declared.piece.TwigPiece.{TwigPiece}
+use Rattle.r4_twig_work.specs.r4_cell.Patch.{place, root_after, root_of_pair}
+use Rattle.r4_twig_work.specs.r4_cell.Seen.{CellSeen, node_of}
+use Rattle.r4_twig_work.specs.r4_cell.declared.change.Change.{Change}
+use Rattle.r4_twig_work.specs.r4_cell.declared.change.Fresh.{Fresh}
+use Rattle.r4_twig_work.proofs.r4_patch.Members.{found, here, later}
+use Rattle.r4_twig_work.specs.r4_patch.Joining.{ids_of, patch_of_change}
+use Rattle.r4_twig_work.specs.r4_patch.Part.{IsPart}
+use Rattle.r4_twig_work.proofs.r4_path.Begun.{ascends_take}
+use Rattle.r4_twig_work.proofs.r4_path.Rising.{count_within, follow_within}
+use Rattle.r4_twig_work.specs.r4_path.Nodes.{IsPointable}
+use Rattle.r4_twig_work.specs.r4_path.Steps.{Ascends, IsFree, Step, fresh_ids, news, olds}
 use Rattle.r4_twig_work.specs.r4_measure.Budget.{AreSeen, Budget, IsBudget, IsFresh, cells_from, most_from}
 use Rattle.r4_twig_work.specs.r4_measure.Grafting.{AreGraftsIn, Beside, IsQuietBelow, comes_below}
 use Rattle.r4_twig_work.proofs.r4_measure.Climb.{in_left, in_right}

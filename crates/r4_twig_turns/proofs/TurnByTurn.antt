@@ -9,12 +9,12 @@ use Rattle.r4_base.specs.Key.{rank}
 use Rattle.r4_base.specs.Tree.{Name, Node, Root, Store}
 use Rattle.r4_base.specs.Value.{Value}
 use Rattle.r4_base.proofs.Trees.{one_cell}
-use Rattle.r4_branch.specs.Pieces.{AreTwigPieces, names_of}
-use Rattle.r4_branch.specs.declared.piece.TwigPiece.{TwigPiece}
-use Rattle.r4_cell.specs.Patch.{by_name, over, place}
-use Rattle.r4_cell.specs.Seen.{CellSeen, node_of}
-use Rattle.r4_cell.specs.declared.change.Fresh.{Fresh}
-use Rattle.r4_cell.specs.declared.change.Root.{Root as RootPair}
+use Rattle.r4_twig_work.specs.r4_branch.Pieces.{AreTwigPieces, names_of}
+use Rattle.r4_twig_work.specs.r4_branch.declared.piece.TwigPiece.{TwigPiece}
+use Rattle.r4_twig_work.specs.r4_cell.Patch.{by_name, over, place}
+use Rattle.r4_twig_work.specs.r4_cell.Seen.{CellSeen, node_of}
+use Rattle.r4_twig_work.specs.r4_cell.declared.change.Fresh.{Fresh}
+use Rattle.r4_twig_work.specs.r4_cell.declared.change.Root.{Root as RootPair}
 use Rattle.r4_twig_work.specs.r4_measure.Budget.{Budget, most_from}
 use Rattle.r4_twig_work.specs.r4_measure.Grafting.{Beside, IsQuietBelow, comes_below}
 use Rattle.r4_twig_work.specs.r4_measure.Measured.{IsMeasured}
@@ -23,22 +23,22 @@ use Rattle.r4_twig_work.proofs.r4_measure.Placed.{cells_are, still_in}
 use Rattle.r4_twig_work.proofs.r4_measure.Kept.{not_named}
 use Rattle.r4_twig_work.proofs.r4_measure.Suffices.{finds}
 use Rattle.r4_twig_work.proofs.r4_measure.TwigTurn.{twig_enough}
-use Rattle.r4_patch.specs.Joining.{ids_of, patch_of_change}
-use Rattle.r4_patch.specs.Part.{IsPart}
-use Rattle.r4_patch.proofs.Members.{absent, cases, here, later, none}
-use Rattle.r4_patch.proofs.PartCells.{apart, level_above, named_once, one_above}
-use Rattle.r4_path.specs.Grafts.{IsGraftBelow, IsGraftBelowUp, extra_twigs}
-use Rattle.r4_path.specs.Steps.{Ascends, IsFree, Step, fresh_ids, name_of, news, olds, root_pair}
-use Rattle.r4_path.specs.Nodes.{IsPointable}
-use Rattle.r4_path.proofs.Begun.{ascends_take}
-use Rattle.r4_path.proofs.Counted.{count_once}
-use Rattle.r4_path.proofs.Rising.{InCell, count_within, hi_is, id_member, in_node, level_is, lo_is}
+use Rattle.r4_twig_work.specs.r4_patch.Joining.{ids_of, patch_of_change}
+use Rattle.r4_twig_work.specs.r4_patch.Part.{IsPart}
+use Rattle.r4_twig_work.proofs.r4_patch.Members.{absent, cases, here, later, none}
+use Rattle.r4_twig_work.proofs.r4_patch.PartCells.{apart, level_above, named_once, one_above}
+use Rattle.r4_twig_work.specs.r4_path.Grafts.{IsGraftBelow, IsGraftBelowUp, extra_twigs}
+use Rattle.r4_twig_work.specs.r4_path.Steps.{Ascends, IsFree, Step, fresh_ids, name_of, news, olds, root_pair}
+use Rattle.r4_twig_work.specs.r4_path.Nodes.{IsPointable}
+use Rattle.r4_twig_work.proofs.r4_path.Begun.{ascends_take}
+use Rattle.r4_twig_work.proofs.r4_path.Counted.{count_once}
+use Rattle.r4_twig_work.proofs.r4_path.Rising.{InCell, count_within, hi_is, id_member, in_node, level_is, lo_is}
 use Rattle.r4_twig_work.specs.Regrafting.{IsRegraftable}
-use Rattle.r4_work.specs.Order.{cell_at}
-use Rattle.r4_work.specs.Working.{IsWorking, first_and, now_of, root_of, standing, twig_path_of, ups_of}
-use Rattle.r4_work.specs.declared.working.WorkingSet.{WorkingSet}
-use Rattle.r4_work.proofs.InPlace.{now_part, now_working, standing_is}
-use Rattle.r4_work.proofs.Paths.{ascends_from, found_is, lowest_from}
+use Rattle.r4_twig_work.specs.r4_work.Order.{cell_at}
+use Rattle.r4_twig_work.specs.r4_work.Working.{IsWorking, first_and, now_of, root_of, standing, twig_path_of, ups_of}
+use Rattle.r4_twig_work.specs.r4_work.declared.working.WorkingSet.{WorkingSet}
+use Rattle.r4_twig_work.proofs.r4_work.InPlace.{now_part, now_working, standing_is}
+use Rattle.r4_twig_work.proofs.r4_work.Paths.{ascends_from, found_is, lowest_from}
 use Rattle.r4_twig_turns.specs.Turning.{AreReady, CanRegraftAll, IsReady, IsTurnOf, IsTurned, IsTwigAt, TurnAtMost, TwigTurn, behind, come_at_most, numbers_for, own_of}
 use Rattle.r4_twig_turns.proofs.KeptTurn.{kept, stood}
 use Rattle.r4_twig_turns.proofs.Left.{long_sum}

@@ -3,19 +3,19 @@ use Rattle.std.specs.Prelude.{◌≡◌, ◌≢◌, ◌↔◌, ◌⊎◌, ℕ, �
 use Rattle.std.specs.Prelude.{Contains, Some}
 use Rattle.r4_base.specs.Tree.{IsData, IsNode, Name, Node, Root, Store}
 use Rattle.r4_base.specs.Value.{Value}
-use Rattle.r4_branch.specs.Pieces.{AreTwigPieces, names_of, twig_bytes}
-use Rattle.r4_branch.specs.declared.piece.TwigPiece.{TwigPiece}
-use Rattle.r4_cell.specs.Patch.{HaveNames}
-use Rattle.r4_cell.specs.Seen.{CellSeen, node_of}
-use Rattle.r4_cell.specs.declared.change.Fresh.{Fresh}
+use Rattle.r4_twig_work.specs.r4_branch.Pieces.{AreTwigPieces, names_of, twig_bytes}
+use Rattle.r4_twig_work.specs.r4_branch.declared.piece.TwigPiece.{TwigPiece}
+use Rattle.r4_twig_work.specs.r4_cell.Patch.{HaveNames}
+use Rattle.r4_twig_work.specs.r4_cell.Seen.{CellSeen, node_of}
+use Rattle.r4_twig_work.specs.r4_cell.declared.change.Fresh.{Fresh}
 use Rattle.r4_twig_work.specs.r4_measure.Budget.{Budget}
 use Rattle.r4_twig_work.specs.r4_measure.Grafting.{Beside, IsRegrafted, comes_below}
-use Rattle.r4_patch.specs.Joining.{ids_of}
-use Rattle.r4_path.specs.Grafts.{AreBlocksOf, extra_twigs}
-use Rattle.r4_path.specs.Steps.{CountUp, IsNameOf, name_of}
+use Rattle.r4_twig_work.specs.r4_patch.Joining.{ids_of}
+use Rattle.r4_twig_work.specs.r4_path.Grafts.{AreBlocksOf, extra_twigs}
+use Rattle.r4_twig_work.specs.r4_path.Steps.{CountUp, IsNameOf, name_of}
 use Rattle.r4_twig_work.specs.Regrafting.{IsRegraftable}
-use Rattle.r4_work.specs.Working.{IsWorking, now_of, standing, twig_path_of}
-use Rattle.r4_work.specs.declared.working.WorkingSet.{WorkingSet}
+use Rattle.r4_twig_work.specs.r4_work.Working.{IsWorking, now_of, standing, twig_path_of}
+use Rattle.r4_twig_work.specs.r4_work.declared.working.WorkingSet.{WorkingSet}
 
 -- The twig that has a key, of which the node is given, is packed anew: which pieces it gets, and what goes and comes
 -- below it, by the number that is free next. So many numbers are taken for this: first for data blocks, then for leaves.

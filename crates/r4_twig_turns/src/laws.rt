@@ -3,12 +3,12 @@
 ghost use Rattle.std.specs.Prelude.{ℕ, ◌+◌, ◌≤◌, List};
 ghost use Rattle.r4_base.specs.Tree.{Root, Store};
 ghost use Rattle.r4_base.specs.Value.{Value};
-ghost use Rattle.r4_cell.specs.declared.change.Fresh.{Fresh};
+ghost use Rattle.r4_twig_work.specs.r4_cell.declared.change.Fresh.{Fresh};
 ghost use Rattle.r4_twig_work.specs.r4_measure.Budget.{AreUnplaced, Budget, most_from};
 ghost use Rattle.r4_twig_work.specs.r4_measure.Grafting.{IsQuietBelow};
 ghost use Rattle.r4_twig_work.specs.r4_measure.Measured.{IsMeasured};
-ghost use Rattle.r4_work.specs.Working.{root_of, standing};
-ghost use Rattle.r4_work.specs.declared.working.WorkingSet.{WorkingSet};
+ghost use Rattle.r4_twig_work.specs.r4_work.Working.{root_of, standing};
+ghost use Rattle.r4_twig_work.specs.r4_work.declared.working.WorkingSet.{WorkingSet};
 ghost use Rattle.r4_twig_turns.specs.Turning.{AreReady, CanRegraftAll, TurnAtMost, TwigTurn};
 ghost use Rattle.r4_twig_turns.specs.Turning.{come_at_most, numbers_for};
 

@@ -5,4 +5,6 @@
 mod laws;
 
 pub use laws::each_twig_has_its_turn;
-pub use r4_twig_work::{Below, regraft};
+pub use r4_twig_work::{
+    Below, KeyRange, TwigPart, TwigPiece, WorkingSet, add, pieces_of_cell, regraft, take_number,
+};

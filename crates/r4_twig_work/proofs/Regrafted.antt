@@ -5,25 +5,25 @@ use Rattle.std.proofs.lemmas.List.{reverse-reverse}
 use Rattle.std.proofs.lemmas.List.Elements.{Contains-append_cases, Contains-append_left, Contains-append_right}
 use Rattle.r4_base.specs.Tree.{Root, Store}
 use Rattle.r4_base.specs.Value.{Value}
-use Rattle.r4_branch.specs.declared.piece.TwigPiece.{TwigPiece}
-use Rattle.r4_cell.specs.Patch.{IsChange}
-use Rattle.r4_cell.specs.Seen.{CellSeen}
-use Rattle.r4_cell.specs.declared.change.Change.{Change}
-use Rattle.r4_cell.specs.declared.change.Fresh.{Fresh}
+use Rattle.r4_measure.specs.r4_branch.declared.piece.TwigPiece.{TwigPiece}
+use Rattle.r4_measure.specs.r4_cell.Patch.{IsChange}
+use Rattle.r4_measure.specs.r4_cell.Seen.{CellSeen}
+use Rattle.r4_measure.specs.r4_cell.declared.change.Change.{Change}
+use Rattle.r4_measure.specs.r4_cell.declared.change.Fresh.{Fresh}
 use Rattle.r4_extent_edit.proofs.GraftEffect.{IsRepacked, graft_effect, graft_names, graft_root}
 use Rattle.r4_extent_edit.specs.Effects.{patch_with}
 use Rattle.r4_measure.specs.Grafting.{Beside, IsRegrafted}
 use Rattle.r4_measure.proofs.Climb.{in_left}
 use Rattle.r4_measure.proofs.Kept.{not_named}
-use Rattle.r4_patch.specs.Joining.{ids_of}
-use Rattle.r4_patch.specs.Part.{IsPart, MeetsPart}
-use Rattle.r4_path.specs.Grafts.{Grafts, GraftsBelow, GraftsUp, IsGraftBelow, IsGraftBelowIn, IsGraftBelowUp, IsGraftIn, IsGraftedUp}
-use Rattle.r4_path.specs.Steps.{Ascends, OnlyTakes}
+use Rattle.r4_measure.specs.r4_patch.Joining.{ids_of}
+use Rattle.r4_measure.specs.r4_patch.Part.{IsPart, MeetsPart}
+use Rattle.r4_measure.specs.r4_path.Grafts.{Grafts, GraftsBelow, GraftsUp, IsGraftBelow, IsGraftBelowIn, IsGraftBelowUp, IsGraftIn, IsGraftedUp}
+use Rattle.r4_measure.specs.r4_path.Steps.{Ascends, OnlyTakes}
 use Rattle.r4_twig_work.specs.Regrafting.{DoesBelow, IsRegraftable}
-use Rattle.r4_work.proofs.InPlace.{now_effect, now_part, now_working, standing_is}
-use Rattle.r4_work.proofs.Paths.{ascends_from}
-use Rattle.r4_work.specs.Working.{IsNextEdit, IsPutInPlace, IsWorking, now_of, root_of, standing, twig_path_of}
-use Rattle.r4_work.specs.declared.working.WorkingSet.{WorkingSet}
+use Rattle.r4_measure.proofs.r4_work.InPlace.{now_effect, now_part, now_working, standing_is}
+use Rattle.r4_measure.proofs.r4_work.Paths.{ascends_from}
+use Rattle.r4_measure.specs.r4_work.Working.{IsNextEdit, IsPutInPlace, IsWorking, now_of, root_of, standing, twig_path_of}
+use Rattle.r4_measure.specs.r4_work.declared.working.WorkingSet.{WorkingSet}
 
 HasTwig : List CellSeen → Type 0
 HasTwig xs = (twig : CellSeen) × (ups : List CellSeen) × (xs ≡ twig ∷ ups)

@@ -9,23 +9,23 @@ use Rattle.r4_base.specs.Cell.{cell_of}
 use Rattle.r4_base.specs.Key.{rank}
 use Rattle.r4_base.specs.Tree.{IsNode, Name, Node, Root, Span, Store}
 use Rattle.r4_base.specs.Value.{Value}
-use Rattle.r4_cell.proofs.Nodes.{data_node}
-use Rattle.r4_cell.specs.Patch.{HaveNames, IsChange, IsPatch, NeedsName, Patch, SameRange, by_name, patch_of}
-use Rattle.r4_cell.specs.Seen.{CellSeen, node_of}
-use Rattle.r4_cell.specs.declared.change.Change.{Change}
-use Rattle.r4_cell.specs.declared.change.Fresh.{Fresh}
-use Rattle.r4_patch.specs.Joining.{ids_of}
-use Rattle.r4_patch.specs.Part.{IsPart, MeetsPart}
-use Rattle.r4_path.specs.Levels.{units_of_cells}
-use Rattle.r4_patch.proofs.Members.{Distinct, cases, distinct, found, have_names, here, later, none, there}
-use Rattle.r4_path.proofs.Rising.{InCell, hi_is, in_node, level_is, lo_is}
-use Rattle.r4_patch.specs.Effect.{HasEffect, Placed, UnitIn, in_extent}
+use Rattle.r4_extent_edit.proofs.r4_cell.Nodes.{data_node}
+use Rattle.r4_measure.specs.r4_cell.Patch.{HaveNames, IsChange, IsPatch, NeedsName, Patch, SameRange, by_name, patch_of}
+use Rattle.r4_measure.specs.r4_cell.Seen.{CellSeen, node_of}
+use Rattle.r4_measure.specs.r4_cell.declared.change.Change.{Change}
+use Rattle.r4_measure.specs.r4_cell.declared.change.Fresh.{Fresh}
+use Rattle.r4_measure.specs.r4_patch.Joining.{ids_of}
+use Rattle.r4_measure.specs.r4_patch.Part.{IsPart, MeetsPart}
+use Rattle.r4_measure.specs.r4_path.Levels.{units_of_cells}
+use Rattle.r4_measure.proofs.r4_patch.Members.{Distinct, cases, distinct, found, have_names, here, later, none, there}
+use Rattle.r4_measure.proofs.r4_path.Rising.{InCell, hi_is, in_node, level_is, lo_is}
+use Rattle.r4_measure.specs.r4_patch.Effect.{HasEffect, Placed, UnitIn, in_extent}
 use Rattle.r4_twig_work.specs.Renewing.{AreRenewals, DoesRenew, IsRenewable, IsRenewed, Renewal, news_of, olds_of}
 use Rattle.r4_twig_work.proofs.Standing.{as_before, stand_now}
-use Rattle.r4_work.proofs.InPlace.{now_effect, now_part, now_working}
-use Rattle.r4_work.specs.Working.{IsNextEdit, IsPutInPlace, IsWorking, now_of, root_of}
-use Rattle.r4_work.specs.declared.working.WorkingSet.{WorkingSet}
-use Rattle.r4_work.proofs.LeafEffect.{from_units, to_units}
+use Rattle.r4_measure.proofs.r4_work.InPlace.{now_effect, now_part, now_working}
+use Rattle.r4_measure.specs.r4_work.Working.{IsNextEdit, IsPutInPlace, IsWorking, now_of, root_of}
+use Rattle.r4_measure.specs.r4_work.declared.working.WorkingSet.{WorkingSet}
+use Rattle.r4_measure.proofs.r4_work.LeafEffect.{from_units, to_units}
 
 -- a data block has no names and no extents
 cell_names : (level lo hi : ℕ) (b : List ℕ) → level ≡ 0 → (cell_of level lo hi b).names ≡ []

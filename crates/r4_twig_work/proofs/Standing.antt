@@ -9,18 +9,18 @@ use Rattle.std.proofs.lemmas.List.Filters.{length-filter_both}
 use Rattle.std.proofs.lemmas.List.Kept.{AllPairs-filter}
 use Rattle.std.proofs.lemmas.List.Sorted.{Contains-permutation, IsPermutation-sym, length_permutation, sum_by-IsPermutation}
 use Rattle.std.proofs.lemmas.List.Sums.{sum_by-cons}
-use Rattle.r4_cell.specs.Patch.{HaveNames}
-use Rattle.r4_cell.specs.Seen.{CellSeen}
+use Rattle.r4_measure.specs.r4_cell.Patch.{HaveNames}
+use Rattle.r4_measure.specs.r4_cell.Seen.{CellSeen}
 use Rattle.r4_measure.proofs.Few.{members_and_others, outside, sum_without}
 use Rattle.r4_measure.proofs.Loop.{of_id}
-use Rattle.r4_patch.proofs.Followed.{among_cell, among_or_not, cell_among, in_without, to_without}
-use Rattle.r4_patch.proofs.Members.{Distinct, cases, distinct, here, later, none}
-use Rattle.r4_patch.specs.Following.{is_among, without}
-use Rattle.r4_patch.specs.Joining.{ids_of}
-use Rattle.r4_path.proofs.Rising.{id_member}
+use Rattle.r4_measure.proofs.r4_patch.Followed.{among_cell, among_or_not, cell_among, in_without, to_without}
+use Rattle.r4_measure.proofs.r4_patch.Members.{Distinct, cases, distinct, here, later, none}
+use Rattle.r4_measure.specs.r4_patch.Following.{is_among, without}
+use Rattle.r4_measure.specs.r4_patch.Joining.{ids_of}
+use Rattle.r4_measure.proofs.r4_path.Rising.{id_member}
 use Rattle.r4_twig_work.specs.Renewing.{AllStand, StandAsBefore, renewing}
-use Rattle.r4_work.specs.Working.{IsPutInPlace, standing}
-use Rattle.r4_work.specs.declared.working.WorkingSet.{WorkingSet}
+use Rattle.r4_measure.specs.r4_work.Working.{IsPutInPlace, standing}
+use Rattle.r4_measure.specs.r4_work.declared.working.WorkingSet.{WorkingSet}
 
 -- ---- how many cells are left
 

@@ -4,19 +4,19 @@ use Rattle.std.specs.Prelude.{map}
 use Rattle.std.specs.Arc.{arc_value}
 use Rattle.r4_base.specs.Tree.{Holds, Root, Store}
 use Rattle.r4_base.specs.Value.{Value}
-use Rattle.r4_branch.specs.Pieces.{units_of}
-use Rattle.r4_branch.specs.declared.piece.TwigPiece.{TwigPiece}
-use Rattle.r4_cell.specs.Seen.{CellSeen, node_of}
-use Rattle.r4_cell.specs.declared.change.Fresh.{Fresh}
+use Rattle.r4_measure.specs.r4_branch.Pieces.{units_of}
+use Rattle.r4_measure.specs.r4_branch.declared.piece.TwigPiece.{TwigPiece}
+use Rattle.r4_measure.specs.r4_cell.Seen.{CellSeen, node_of}
+use Rattle.r4_measure.specs.r4_cell.declared.change.Fresh.{Fresh}
 use Rattle.r4_extent_edit.specs.r4_leaf.Units.{LeafUnit}
 use Rattle.r4_measure.specs.Grafting.{Beside, comes_below}
-use Rattle.r4_patch.specs.Effect.{Placed}
-use Rattle.r4_patch.specs.Joining.{ids_of}
-use Rattle.r4_path.specs.Grafts.{IsGraftBelowUp}
+use Rattle.r4_measure.specs.r4_patch.Effect.{Placed}
+use Rattle.r4_measure.specs.r4_patch.Joining.{ids_of}
+use Rattle.r4_measure.specs.r4_path.Grafts.{IsGraftBelowUp}
 use Rattle.r4_twig_work.specs.declared.regrafting.Below.{Below}
-use Rattle.r4_work.specs.Remaking.{Changes}
-use Rattle.r4_work.specs.Working.{IsWorking, now_of, root_of, standing, twig_path_of}
-use Rattle.r4_work.specs.declared.working.WorkingSet.{WorkingSet}
+use Rattle.r4_measure.specs.r4_work.Remaking.{Changes}
+use Rattle.r4_measure.specs.r4_work.Working.{IsWorking, now_of, root_of, standing, twig_path_of}
+use Rattle.r4_measure.specs.r4_work.declared.working.WorkingSet.{WorkingSet}
 
 -- The set is one of this part of a tree. The standing twig that has the key may get these pieces, while cells below it
 -- that stand go, others come, and data blocks come. What comes has the number of a cell that goes, or one that was taken

@@ -4,18 +4,18 @@ use Rattle.std.specs.Prelude.{None, Some}
 use Rattle.r4_base.specs.Key.{rank}
 use Rattle.r4_base.specs.Tree.{Root, Store}
 use Rattle.r4_base.specs.Value.{Value}
-use Rattle.r4_cell.specs.Patch.{HaveNames, IsChange}
-use Rattle.r4_cell.specs.Seen.{CellSeen, node_of}
-use Rattle.r4_cell.specs.declared.change.Change.{Change}
-use Rattle.r4_cell.specs.declared.change.Fresh.{Fresh}
-use Rattle.r4_patch.specs.Effect.{in_extent}
-use Rattle.r4_patch.specs.Joining.{ids_of, patch_of_change}
-use Rattle.r4_patch.specs.Part.{MeetsPart}
-use Rattle.r4_path.specs.Levels.{units_of_cells}
-use Rattle.r4_work.specs.Order.{HasKey}
-use Rattle.r4_work.specs.Remaking.{Changes}
-use Rattle.r4_work.specs.Working.{IsPutInPlace, IsWorking, now_of, root_of, standing}
-use Rattle.r4_work.specs.declared.working.WorkingSet.{WorkingSet}
+use Rattle.r4_measure.specs.r4_cell.Patch.{HaveNames, IsChange}
+use Rattle.r4_measure.specs.r4_cell.Seen.{CellSeen, node_of}
+use Rattle.r4_measure.specs.r4_cell.declared.change.Change.{Change}
+use Rattle.r4_measure.specs.r4_cell.declared.change.Fresh.{Fresh}
+use Rattle.r4_measure.specs.r4_patch.Effect.{in_extent}
+use Rattle.r4_measure.specs.r4_patch.Joining.{ids_of, patch_of_change}
+use Rattle.r4_measure.specs.r4_patch.Part.{MeetsPart}
+use Rattle.r4_measure.specs.r4_path.Levels.{units_of_cells}
+use Rattle.r4_measure.specs.r4_work.Order.{HasKey}
+use Rattle.r4_measure.specs.r4_work.Remaking.{Changes}
+use Rattle.r4_measure.specs.r4_work.Working.{IsPutInPlace, IsWorking, now_of, root_of, standing}
+use Rattle.r4_measure.specs.r4_work.declared.working.WorkingSet.{WorkingSet}
 
 -- a data block, and the one that comes in its place
 pub record Renewal : Type 0 where

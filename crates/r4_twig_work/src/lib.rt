@@ -5,5 +5,8 @@
 mod regrafting;
 mod renewing;
 
+pub use r4_extent_edit::{
+    KeyRange, TwigPart, TwigPiece, WorkingSet, add, pieces_of_cell, take_number,
+};
 pub use regrafting::{Below, regraft};
 pub use renewing::renew;

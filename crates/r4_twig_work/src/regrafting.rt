@@ -6,15 +6,13 @@ ghost use Rattle.r4_base.specs.Key.{rank};
 ghost use Rattle.r4_base.specs.Tree.{Root as TreeRoot, Store};
 ghost use Rattle.r4_base.specs.Value.{Value};
 ghost use Rattle.r4_measure.specs.Grafting.{IsRegrafted};
-ghost use Rattle.r4_path.specs.Steps.{OnlyTakes};
+ghost use Rattle.r4_measure.specs.r4_path.Steps.{OnlyTakes};
 ghost use Rattle.r4_twig_work.specs.Regrafting.{DoesBelow, IsRegraftable, beside_of};
-ghost use Rattle.r4_work.specs.Working.{IsWorking};
+ghost use Rattle.r4_measure.specs.r4_work.Working.{IsWorking};
 
 use r4_base::{Key, Memory};
-use r4_branch::TwigPiece;
-use r4_cell::{Cell, Cells, Change, Fresh};
-use r4_path::graft_below;
-use r4_work::WorkingSet;
+use r4_extent_edit::{TwigPiece, graft_below};
+use r4_measure::{Cell, Cells, Change, Fresh, WorkingSet};
 use std::alloc::Global;
 use std::sync::Arc;
 

@@ -4,13 +4,12 @@ ghost use Rattle.std.specs.Prelude.{◌≡◌, List, map, OnErr, OnOk};
 ghost use Rattle.std.specs.Arc.{arc_value};
 ghost use Rattle.r4_base.specs.Tree.{Root as TreeRoot, Store};
 ghost use Rattle.r4_base.specs.Value.{Value};
-ghost use Rattle.r4_cell.specs.declared.change.Fresh.{Fresh as FreshSeen};
+ghost use Rattle.r4_measure.specs.r4_cell.declared.change.Fresh.{Fresh as FreshSeen};
 ghost use Rattle.r4_twig_work.specs.Renewing.{DoesRenew, IsRenewable, IsRenewed, Renewal};
-ghost use Rattle.r4_work.specs.Working.{IsWorking};
+ghost use Rattle.r4_measure.specs.r4_work.Working.{IsWorking};
 
 use r4_base::Memory;
-use r4_cell::{Cell, Cells, Change};
-use r4_work::WorkingSet;
+use r4_measure::{Cell, Cells, Change, WorkingSet};
 use std::alloc::Global;
 use std::sync::Arc;
 

@@ -9,4 +9,9 @@ mod working;
 
 pub use laws::{paths_ascend, standing_cells_are_apart};
 pub use ordered::by_place;
+pub use r4_edit::{
+    Cell, Change, Fresh, KeyRange, LeafParts, TwigPart, TwigPiece, add, add_pointer, cells_of,
+    extent_pieces, graft_below, left_part, pieces_of_cell, pieces_parted, place_of, right_part,
+    splice, take_number,
+};
 pub use working::WorkingSet;

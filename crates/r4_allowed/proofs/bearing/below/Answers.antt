@@ -1,8 +1,8 @@
 use Rattle.std.proofs.Common.{◌≡◌, ◌-◌, List, ap, subst, ◌∙◌, arith}
 use Rattle.std.specs.Prelude.{Some, slice_get}
 use Rattle.r4_base.specs.Node.{Item, items_of}
-use Rattle.r4_measure.specs.Budget.{of_item}
-use Rattle.r4_node40.specs.View.{item_shown}
+use Rattle.r4_extent_put.specs.r4_extent_change.r4_measure.Budget.{of_item}
+use Rattle.r4_extent_put.specs.r4_extent_change.r4_node40.View.{item_shown}
 use Rattle.r4_allowed.specs.Table.{budget_of}
 use Rattle.r4_allowed.proofs.Coming.{below_next}
 use Rattle.r4_allowed.proofs.bearing.below.Goals as goal

@@ -1,6 +1,6 @@
 use Rattle.std.proofs.Common.{◌≡◌, ◌-◌, ◌*◌, ◌^◌, ◌≤◌, take}
 use Rattle.r4_base.specs.Node.{items_of}
-use Rattle.r4_measure.specs.Budget.{below}
+use Rattle.r4_extent_put.specs.r4_extent_change.r4_measure.Budget.{below}
 use Rattle.r4_allowed.specs.Table.{budget_of}
 use Rattle.r4_allowed.proofs.bearing.below.Given as goal
 

@@ -1,7 +1,7 @@
 use Rattle.std.proofs.Common.{◌≡◌, suc, map, true, ap, subst}
 use Rattle.std.specs.Arc.{arc_value}
 use Rattle.std.specs.Prelude.{◌↔◌}
-use Rattle.r4_measure.specs.r4_cell.Seen.{CellSeen}
+use Rattle.r4_extent_put.specs.r4_extent_change.r4_measure.r4_cell.Seen.{CellSeen}
 use Rattle.r4_allowed.specs.Allowing.{PointsTo}
 use Rattle.r4_allowed.proofs.Searching.{one_later}
 use Rattle.r4_allowed.proofs.checking.+is_pointed_to.Goals as goal

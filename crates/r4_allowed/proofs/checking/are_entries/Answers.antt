@@ -1,7 +1,7 @@
 use Rattle.std.proofs.Common.{map, refl}
 use Rattle.std.specs.Arc.{arc_value}
 use Rattle.std.proofs.lemmas.List.Elements.{All-more}
-use Rattle.r4_measure.specs.r4_cell.Patch.{root_of_pair}
+use Rattle.r4_extent_put.specs.r4_extent_change.r4_measure.r4_cell.Patch.{root_of_pair}
 use Rattle.r4_allowed.specs.Allowing.{IsEntry}
 use Rattle.r4_allowed.proofs.Searching.{all_there}
 use Rattle.r4_allowed.specs.declared.table.Allowance.{Allowance}

@@ -2,7 +2,7 @@ use Rattle.std.proofs.Common.{map}
 use Rattle.std.specs.Arc.{arc_value}
 use Rattle.std.proofs.lemmas.Bool.{both_ways}
 use Rattle.r4_allowed.proofs.Allowed.{measure}
-use Rattle.r4_measure.specs.r4_cell.Patch.{root_of_pair}
+use Rattle.r4_extent_put.specs.r4_extent_change.r4_measure.r4_cell.Patch.{root_of_pair}
 use Rattle.r4_allowed.proofs.Searching.{all_allowed, not_entries}
 use Rattle.r4_allowed.proofs.checking.is_allowed.Goals as goal
 

@@ -1,4 +1,5 @@
-use Rattle.r4_applied.proofs.Applied.{born_are, does, gone_are, reply_is}
+use Rattle.r4_applied.proofs.Applied.{does}
+use Rattle.r4_applied.proofs.Over.{born_are, gone_are, reply_is}
 use Rattle.r4_applied.proofs.laws.built_commands_do.Goals as goal
 
 pub returns : goal.returns

@@ -34,10 +34,14 @@ returns c =
     (is.leaves c.requires.leaves)) in
     record {
       reply = ap (λ (x : Ending). x.reply) ending;
-      born = c.born.ensures ∙ ap (λ (x : Reply). if makes_object task.command && is_okay x then 1 else 0) (ap (λ (x : Ending). x.reply) ending);
-      gone = c.gone.ensures ∙ ap (λ (e : Edits). stats_in e.cuts) same;
+      born = c.of-objects.ensures.born ∙ ap (λ (x : Reply). if makes_object task.command && is_okay x then 1 else 0) (ap (λ (x : Ending). x.reply) ending);
+      gone = c.of-objects.ensures.gone ∙ ap (λ (e : Edits). stats_in e.cuts) same;
       change = told.change;
-      leaves = c.requires.leaves;
+      made = inl (record {
+        leaves = c.requires.leaves;
+        effect = subst (λ (e : Edits). HasEffect (patch_of_change c.in_ok-change.change) (is_in (changed e)) (set_by e))
+            same told.effect;
+      });
       meets = λ t r is. told.meets b reads t r (can t r is);
       few =
           let (t, (r, is)) = c.requires.task in
@@ -46,7 +50,6 @@ returns c =
           (subst (λ (e : Edits). length c.in_ok-change.change.new ≤ most_new b e reads t r (map (λ x. arc_value x) c.as_slice.result.now)) same
           (told.few b reads t r (can t r is))) in
           omega (arith, most, few);
-      effect = subst (λ (e : Edits). HasEffect (patch_of_change c.in_ok-change.change) (is_in (changed e)) (set_by e)) same told.effect;
       old = λ x at. subst (λ (l : List CellSeen). Contains l x) c.as_slice.ensures (told.old x at);
       new = λ x at. elim (told.new x at) [
         | inl h ↦ inl h

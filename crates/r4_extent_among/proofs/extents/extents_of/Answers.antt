@@ -5,9 +5,9 @@ use Rattle.r4_base.specs.Cell.{spans_in}
 use Rattle.r4_base.specs.Key.{rank}
 use Rattle.r4_base.specs.Node.{items_of}
 use Rattle.r4_base.specs.Tree.{Span}
-use Rattle.r4_leaf_demands.specs.Touching.{span_of, spans_at}
-use Rattle.r4_extent_demands.proofs.r4_bodies.r4_search.Places.{item_in}
-use Rattle.r4_extent_demands.proofs.Puts.{cell_spans, spans_next, spans_nil}
+use Rattle.r4_extent_build.specs.r4_leaf_demands.Touching.{span_of, spans_at}
+use Rattle.r4_extent_build.proofs.r4_extent_demands.r4_bodies.r4_search.Places.{item_in}
+use Rattle.r4_extent_build.proofs.r4_extent_demands.Puts.{cell_spans, spans_next, spans_nil}
 use Rattle.r4_extent_among.proofs.extents.extents_of.Goals as goal
 
 pub loop-i-preserved : goal.loop-i-preserved

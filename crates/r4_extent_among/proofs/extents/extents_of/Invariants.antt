@@ -3,7 +3,7 @@ use Rattle.std.specs.Prelude.{drop}
 use Rattle.r4_base.specs.Cell.{spans_in}
 use Rattle.r4_base.specs.Key.{rank}
 use Rattle.r4_base.specs.Node.{items_of}
-use Rattle.r4_leaf_demands.specs.Touching.{span_of}
+use Rattle.r4_extent_build.specs.r4_leaf_demands.Touching.{span_of}
 use Rattle.r4_extent_among.proofs.extents.extents_of.Given as goal
 
 abbrev pub invariant-loop-i : goal.invariant-loop-i

@@ -3,14 +3,14 @@ use Rattle.std.specs.Prelude.{Contains}
 use Rattle.std.specs.Arc.{arc_value}
 use Rattle.std.specs.Option.{option_copied}
 use Rattle.r4_base.specs.Key.{rank}
-use Rattle.r4_cell.specs.Seen.{CellSeen}
-use Rattle.r4_cell.specs.declared.change.Fresh.{Fresh}
+use Rattle.r4_extent_build.specs.r4_cell.Seen.{CellSeen}
+use Rattle.r4_extent_build.specs.r4_cell.declared.change.Fresh.{Fresh}
 use Rattle.r4_content.specs.Held.{edits_of}
-use Rattle.r4_extent_demands.specs.Putting.{leaves_in, put_into}
-use Rattle.r4_extent_demands.proofs.Puts.{leaves_more}
-use Rattle.r4_leaf.specs.declared.remaking.KeyRange.{KeyRange}
-use Rattle.r4_leaf_demands.specs.Touching.{span_of}
-use Rattle.r4_patch.proofs.Members.{later}
+use Rattle.r4_extent_build.specs.r4_extent_demands.Putting.{leaves_in, put_into}
+use Rattle.r4_extent_build.proofs.r4_extent_demands.Puts.{leaves_more}
+use Rattle.r4_build.specs.r4_leaf.declared.remaking.KeyRange.{KeyRange}
+use Rattle.r4_extent_build.specs.r4_leaf_demands.Touching.{span_of}
+use Rattle.r4_build.proofs.r4_patch.Members.{later}
 use Rattle.r4_extent_among.specs.Among.{numbered}
 use Rattle.r4_extent_among.proofs.Numbered.{numbered_both}
 use Rattle.r4_extent_among.proofs.TurnOf.{few_for}

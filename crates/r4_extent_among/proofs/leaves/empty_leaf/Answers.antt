@@ -1,7 +1,7 @@
 use Rattle.std.specs.Arc.{arc_value}
 use Rattle.std.proofs.lemmas.Result.{IfOk-weaker}
 use Rattle.r4_base.specs.Key.{rank}
-use Rattle.r4_edit.proofs.NewLeaves.{no_leaf, none_fits}
+use Rattle.r4_build.proofs.r4_edit.NewLeaves.{no_leaf, none_fits}
 use Rattle.r4_extent_among.proofs.leaves.empty_leaf.Goals as goal
 
 pub new_cell-requires : goal.new_cell-requires

@@ -3,12 +3,12 @@ use Rattle.std.specs.Arc.{arc_value}
 use Rattle.std.specs.Option.{option_copied, option_map}
 use Rattle.std.proofs.lemmas.Result.{IfOk-weaker}
 use Rattle.r4_base.specs.Key.{rank}
-use Rattle.r4_cell.specs.Seen.{CellSeen}
-use Rattle.r4_cell.specs.declared.change.Fresh.{Fresh}
+use Rattle.r4_extent_build.specs.r4_cell.Seen.{CellSeen}
+use Rattle.r4_extent_build.specs.r4_cell.declared.change.Fresh.{Fresh}
 use Rattle.r4_content.specs.Held.{edits_of}
-use Rattle.r4_edit.specs.LeafParts.{HasRight, IsRightPart, right_id}
-use Rattle.r4_extent_demands.specs.Putting.{put_into}
-use Rattle.r4_leaf.specs.Units.{LeafUnit}
+use Rattle.r4_extent_build.specs.r4_edit.LeafParts.{HasRight, IsRightPart, right_id}
+use Rattle.r4_extent_build.specs.r4_extent_demands.Putting.{put_into}
+use Rattle.r4_build.specs.r4_leaf.Units.{LeafUnit}
 use Rattle.r4_extent_among.specs.Among.{AreLeavesFor, numbered}
 use Rattle.r4_extent_among.specs.Making.{ArePackedFrom}
 use Rattle.r4_extent_among.proofs.Numbered.{counts_numbered}

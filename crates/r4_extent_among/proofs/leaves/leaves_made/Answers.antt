@@ -3,9 +3,9 @@ use Rattle.std.specs.Option.{option_copied}
 use Rattle.std.proofs.lemmas.Result.{IfOk-weaker}
 use Rattle.r4_base.specs.Key.{rank}
 use Rattle.r4_content.specs.Held.{edits_of}
-use Rattle.r4_extent_demands.proofs.Puts.{none_of_leaf}
-use Rattle.r4_leaf_edits.specs.Made.{cuts_in}
-use Rattle.r4_node40.specs.View.{view_items}
+use Rattle.r4_extent_build.proofs.r4_extent_demands.Puts.{none_of_leaf}
+use Rattle.r4_build.specs.r4_leaf_edits.Made.{cuts_in}
+use Rattle.r4_extent_build.specs.r4_node40.View.{view_items}
 use Rattle.r4_extent_among.proofs.MadeLeaves.{are_small, are_within, can_put, few_values_are, lies, packs_values}
 use Rattle.r4_extent_among.proofs.leaves.leaves_made.Goals as goal
 

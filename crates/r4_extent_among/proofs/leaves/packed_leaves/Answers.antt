@@ -2,14 +2,14 @@ use Rattle.std.proofs.Common.{◌≡◌, List, ap, arith, length, subst, sym, �
 use Rattle.std.specs.Arc.{arc_value}
 use Rattle.std.specs.Option.{option_copied}
 use Rattle.r4_base.specs.Key.{rank}
-use Rattle.r4_cell.specs.Seen.{CellSeen}
-use Rattle.r4_cell.specs.declared.change.Fresh.{Fresh}
+use Rattle.r4_extent_build.specs.r4_cell.Seen.{CellSeen}
+use Rattle.r4_extent_build.specs.r4_cell.declared.change.Fresh.{Fresh}
 use Rattle.r4_content.specs.Held.{edits_of}
-use Rattle.r4_edit.specs.LeafParts.{IsEmptyLeaf}
-use Rattle.r4_extent_demands.specs.Putting.{put_into}
-use Rattle.r4_leaf.specs.Leaves.{AreFew, HaveMkfsId, Packs}
-use Rattle.r4_leaf.specs.Units.{LeafUnit}
-use Rattle.r4_path.specs.Levels.{step_of}
+use Rattle.r4_extent_build.specs.r4_edit.LeafParts.{IsEmptyLeaf}
+use Rattle.r4_extent_build.specs.r4_extent_demands.Putting.{put_into}
+use Rattle.r4_build.specs.r4_leaf.Leaves.{AreFew, HaveMkfsId, Packs}
+use Rattle.r4_build.specs.r4_leaf.Units.{LeafUnit}
+use Rattle.r4_build.specs.r4_path.Levels.{step_of}
 use Rattle.r4_extent_among.proofs.PackedLeaves.{counted, empty_node, few_length, packed_from}
 use Rattle.r4_extent_among.proofs.leaves.packed_leaves.Goals as goal
 

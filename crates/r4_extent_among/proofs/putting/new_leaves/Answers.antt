@@ -1,6 +1,6 @@
 use Rattle.std.proofs.Common.{subst}
 use Rattle.std.specs.Prelude.{Contains}
-use Rattle.r4_leaf.specs.declared.remaking.KeyRange.{KeyRange}
+use Rattle.r4_build.specs.r4_leaf.declared.remaking.KeyRange.{KeyRange}
 use Rattle.std.specs.Prelude.{List}
 use Rattle.r4_extent_among.proofs.OneTurn.{leaf_range}
 use Rattle.r4_extent_among.proofs.putting.new_leaves.Goals as goal

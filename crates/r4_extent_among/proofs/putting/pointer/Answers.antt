@@ -1,9 +1,9 @@
 use Rattle.std.proofs.Common.{rules, sym, ap}
 use Rattle.r4_base.proofs.Keys.{is_key}
 use Rattle.r4_base.specs.declared.key.Key.{Key}
-use Rattle.r4_branch.specs.declared.piece.TwigPart.TheVariants.{Pointer}
-use Rattle.r4_branch.specs.declared.piece.TwigPiece.{TwigPiece}
-use Rattle.r4_leaf_edits.proofs.KeyRanks.{key_again}
+use Rattle.r4_build.specs.r4_branch.declared.piece.TwigPart.TheVariants.{Pointer}
+use Rattle.r4_build.specs.r4_branch.declared.piece.TwigPiece.{TwigPiece}
+use Rattle.r4_build.proofs.r4_leaf_edits.KeyRanks.{key_again}
 use Rattle.r4_extent_among.proofs.putting.pointer.Goals as goal
 
 pub returns : goal.returns

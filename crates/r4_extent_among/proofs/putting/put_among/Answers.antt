@@ -2,10 +2,10 @@ use Rattle.std.proofs.Common.{map, ◌≡◌, ◌+◌, [], ap, arith, refl, ◌�
 use Rattle.std.specs.Arc.{arc_value}
 use Rattle.std.specs.Option.{option_copied}
 use Rattle.r4_base.specs.Key.{rank}
-use Rattle.r4_cell.specs.declared.change.Fresh.{Fresh}
+use Rattle.r4_extent_build.specs.r4_cell.declared.change.Fresh.{Fresh}
 use Rattle.r4_content.specs.Held.{edits_of}
-use Rattle.r4_path.specs.TwigPieces.{twig_pieces}
-use Rattle.r4_twig_work.specs.Regrafting.{beside_of}
+use Rattle.r4_build.specs.r4_path.TwigPieces.{twig_pieces}
+use Rattle.r4_extent_build.specs.r4_twig_work.Regrafting.{beside_of}
 use Rattle.r4_extent_among.specs.Among.{with_leaves}
 use Rattle.r4_extent_among.proofs.OneTurn.{are_turned, has_put, may_turn}
 use Rattle.r4_extent_among.proofs.TurnOf.{few_leaves}

@@ -1,8 +1,8 @@
 use Rattle.std.proofs.Common.{map, sym, ◌∙◌}
 use Rattle.r4_base.specs.Key.{rank}
-use Rattle.r4_cell.specs.Seen.{node_of}
+use Rattle.r4_units.specs.r4_cell.Seen.{node_of}
 use Rattle.r4_content.specs.Held.{interval_of}
-use Rattle.r4_leaf_edits.proofs.Touched.{intervals_met}
+use Rattle.r4_twig_asks.proofs.r4_leaf_edits.Touched.{intervals_met}
 use Rattle.r4_twig_asks.specs.r4_reach.Needs.{is_met}
 use Rattle.r4_twig_asks.proofs.r4_extent_demands.PutsInto.{any_is}
 use Rattle.r4_extent_asks.proofs.Asks.{touched_high, touched_low}

@@ -4,8 +4,8 @@ use Rattle.std.specs.Prelude.{All, ◌^◌}
 use Rattle.std.proofs.lemmas.Result.{on_ok_weaker}
 use Rattle.r4_content.specs.Edited.{put_keys}
 use Rattle.r4_content.specs.Held.{fill_pairs}
-use Rattle.r4_leaf_edits.specs.Suiting.{IsBefore}
-use Rattle.r4_leaf_edits.proofs.Clipped.{all_left, all_right}
+use Rattle.r4_twig_asks.specs.r4_leaf_edits.Suiting.{IsBefore}
+use Rattle.r4_twig_asks.proofs.r4_leaf_edits.Clipped.{all_left, all_right}
 use Rattle.r4_extent_asks.proofs.Adding.{adds_both, adds_none, keys_both, nothing_of}
 use Rattle.r4_extent_asks.proofs.intervals.+add_fills.Goals as goal
 

@@ -6,8 +6,8 @@ use Rattle.r4_base.specs.Key.{rank}
 use Rattle.r4_content.specs.Edited.{put_keys}
 use Rattle.r4_content.specs.Held.{run_pairs}
 use Rattle.r4_content.specs.Objects.{byte_pairs}
-use Rattle.r4_leaf_edits.specs.Suiting.{IsBefore}
-use Rattle.r4_leaf_edits.proofs.Clipped.{all_left, all_right}
+use Rattle.r4_twig_asks.specs.r4_leaf_edits.Suiting.{IsBefore}
+use Rattle.r4_twig_asks.proofs.r4_leaf_edits.Clipped.{all_left, all_right}
 use Rattle.r4_extent_asks.specs.Widening.{AddsChanges}
 use Rattle.r4_extent_asks.proofs.Adding.{adds_both, adds_none, keys_both, nothing_of}
 use Rattle.r4_extent_asks.proofs.intervals.+add_runs.Goals as goal

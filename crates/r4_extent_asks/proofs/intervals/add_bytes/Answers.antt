@@ -5,8 +5,8 @@ use Rattle.r4_base.specs.Key.{rank}
 use Rattle.r4_base.proofs.Keys.{is_key}
 use Rattle.r4_content.specs.Edited.{is_in, put_keys}
 use Rattle.r4_content.specs.Objects.{byte_pairs}
-use Rattle.r4_graft.proofs.Halves.{later_rank}
-use Rattle.r4_leaf_edits.proofs.Spelled.{offset_is}
+use Rattle.r4_twig_asks.proofs.r4_graft.Halves.{later_rank}
+use Rattle.r4_twig_asks.proofs.r4_leaf_edits.Spelled.{offset_is}
 use Rattle.r4_extent_asks.specs.Widening.{widened}
 use Rattle.r4_extent_asks.proofs.Adding.{adds_one, bytes_in, ends_before}
 use Rattle.r4_extent_asks.proofs.intervals.add_bytes.Goals as goal

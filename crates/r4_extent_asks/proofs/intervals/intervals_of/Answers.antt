@@ -3,9 +3,9 @@ use Rattle.std.specs.List.{flat_map}
 use Rattle.std.specs.Prelude.{All}
 use Rattle.r4_content.specs.Edited.{put_keys}
 use Rattle.r4_content.specs.Held.{fill_pairs, interval_of, pair_of, run_pairs}
-use Rattle.r4_leaf_edits.specs.Suiting.{IsBefore, zero_pairs}
-use Rattle.r4_leaf_edits.proofs.Clipped.{all_left, all_right}
-use Rattle.r4_leaf_edits.proofs.Meant.{bytes_before}
+use Rattle.r4_twig_asks.specs.r4_leaf_edits.Suiting.{IsBefore, zero_pairs}
+use Rattle.r4_twig_asks.proofs.r4_leaf_edits.Clipped.{all_left, all_right}
+use Rattle.r4_twig_asks.proofs.r4_leaf_edits.Meant.{bytes_before}
 use Rattle.r4_extent_asks.specs.Widening.{AddsChanges}
 use Rattle.r4_extent_asks.proofs.Adding.{all_added}
 use Rattle.r4_extent_asks.proofs.intervals.intervals_of.Goals as goal

@@ -3,15 +3,15 @@ use Rattle.std.specs.Option.{option_copied}
 use Rattle.r4_base.specs.Key.{rank}
 use Rattle.r4_base.specs.Node.{Item}
 use Rattle.r4_base.specs.declared.key.Key.{Key}
-use Rattle.r4_cell.specs.Seen.{node_of}
+use Rattle.r4_units.specs.r4_cell.Seen.{node_of}
 use Rattle.r4_content.specs.Held.{edits_of}
-use Rattle.r4_leaf.specs.Items.{Lie}
-use Rattle.r4_leaf.specs.Remade.{AreWithin}
-use Rattle.r4_leaf.specs.Units.{cut_units}
-use Rattle.r4_leaf.specs.declared.remaking.Given.{Given}
-use Rattle.r4_leaf.specs.declared.remaking.KeyRange.{KeyRange}
-use Rattle.r4_leaf_edits.specs.Made.{AreOfLeaf, MakesEdits, cuts_in}
-use Rattle.r4_node40.specs.View.{view_items}
+use Rattle.r4_twig_asks.specs.r4_leaf.Items.{Lie}
+use Rattle.r4_twig_asks.specs.r4_leaf.Remade.{AreWithin}
+use Rattle.r4_twig_asks.specs.r4_leaf.Units.{cut_units}
+use Rattle.r4_twig_asks.specs.r4_leaf.declared.remaking.Given.{Given}
+use Rattle.r4_twig_asks.specs.r4_leaf.declared.remaking.KeyRange.{KeyRange}
+use Rattle.r4_twig_asks.specs.r4_leaf_edits.Made.{AreOfLeaf, MakesEdits, cuts_in}
+use Rattle.r4_units.specs.r4_node40.View.{view_items}
 use Rattle.r4_twig_asks.specs.r4_reach.Needs.{leaf_edits}
 use Rattle.r4_extent_asks.proofs.Measured.{lie}
 use Rattle.r4_extent_asks.proofs.Staying.{can_behind, le, measured_behind, of_rest, within_low}

@@ -3,7 +3,7 @@ use Rattle.std.specs.Option.{option_copied}
 use Rattle.std.specs.Prelude.{nat_lt}
 use Rattle.std.proofs.lemmas.Bool.{ltb-false}
 use Rattle.r4_base.specs.Key.{rank}
-use Rattle.r4_cell.specs.Seen.{node_of}
+use Rattle.r4_units.specs.r4_cell.Seen.{node_of}
 use Rattle.r4_content.specs.Held.{edits_of}
 use Rattle.r4_twig_asks.specs.r4_reach.Needs.{units_after}
 use Rattle.r4_extent_asks.proofs.Staying.{cut_as, cut_low, cut_none, none_behind}

@@ -3,10 +3,10 @@ use Rattle.std.specs.Option.{option_copied}
 use Rattle.std.specs.Prelude.{if◌then◌else◌, nat_lt}
 use Rattle.std.proofs.lemmas.Bool.{ltb-false}
 use Rattle.r4_base.specs.Key.{rank}
-use Rattle.r4_cell.specs.Seen.{node_of}
+use Rattle.r4_units.specs.r4_cell.Seen.{node_of}
 use Rattle.r4_content.specs.Held.{edits_of}
 use Rattle.r4_twig_asks.specs.r4_reach.Needs.{asking, come_of, cut_in_two, is_gone, over, units_after}
-use Rattle.r4_leaf.specs.Units.{leaf_bytes}
+use Rattle.r4_twig_asks.specs.r4_leaf.Units.{leaf_bytes}
 use Rattle.r4_extent_asks.proofs.Staying.{asks_come, asks_nothing, asks_plain}
 use Rattle.r4_extent_asks.proofs.leaves.leaf_asks.Goals as goal
 

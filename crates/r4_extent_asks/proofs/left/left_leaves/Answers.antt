@@ -1,7 +1,7 @@
 use Rattle.std.proofs.Common.{ap, map, sym, ◌∙◌}
 use Rattle.std.specs.Option.{option_copied}
 use Rattle.r4_base.specs.Tree.{Name}
-use Rattle.r4_cell.specs.Seen.{node_of}
+use Rattle.r4_units.specs.r4_cell.Seen.{node_of}
 use Rattle.r4_extent_asks.proofs.Named.{left_off}
 use Rattle.r4_extent_asks.proofs.left.left_leaves.Goals as goal
 

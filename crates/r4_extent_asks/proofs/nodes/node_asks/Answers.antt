@@ -1,8 +1,8 @@
 use Rattle.std.proofs.Common.{◌≡◌, ◌+◌, ◌-◌, ◌*◌, ap, arith, length, map, sym, ◌∙◌}
 use Rattle.std.specs.Option.{option_copied}
 use Rattle.std.specs.Prelude.{◌==◌, if◌then◌else◌}
-use Rattle.r4_cell.specs.Seen.{node_of}
-use Rattle.r4_leaf_demands.proofs.Weighed.{little}
+use Rattle.r4_units.specs.r4_cell.Seen.{node_of}
+use Rattle.r4_twig_asks.proofs.r4_leaf_demands.Weighed.{little}
 use Rattle.r4_twig_asks.specs.r4_marking.Marks.{heard_seen, most_for}
 use Rattle.r4_twig_asks.specs.r4_reach.Needs.{asking, node_need, over}
 use Rattle.r4_extent_asks.proofs.Naming.{as_many, asks_are, at_most, need_is, over_less, some_few}

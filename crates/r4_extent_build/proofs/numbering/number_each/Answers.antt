@@ -1,9 +1,9 @@
 use Rattle.std.proofs.Common.{◌≡◌, suc, List, [], ◌∷◌, ◌++◌, take, drop, get_or, map, ap, sym, subst, ◌∙◌, arith, drop-cons}
 use Rattle.std.proofs.lemmas.List.{take-append-drop, take_more}
 use Rattle.std.specs.Arc.{arc_value}
-use Rattle.r4_branch.specs.declared.piece.TwigPart.TheVariants.{Pointer}
-use Rattle.r4_branch.specs.declared.piece.TwigPiece.{TwigPiece}
-use Rattle.r4_cell.specs.declared.change.Fresh.{Fresh}
+use Rattle.r4_extent_demands.specs.r4_branch.declared.piece.TwigPart.TheVariants.{Pointer}
+use Rattle.r4_extent_demands.specs.r4_branch.declared.piece.TwigPiece.{TwigPiece}
+use Rattle.r4_extent_demands.specs.r4_cell.declared.change.Fresh.{Fresh}
 use Rattle.r4_content.specs.Held.{edits_of}
 use Rattle.r4_extent_build.specs.Numbering.{IsNumbered, coming_count}
 use Rattle.r4_extent_build.proofs.Numbers.{at_start, count_room, one_coming, one_kept}

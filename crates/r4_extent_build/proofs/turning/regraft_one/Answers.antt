@@ -1,7 +1,7 @@
 use Rattle.std.proofs.Common.{◌+◌, map, refl, ap, ◌∙◌, arith}
 use Rattle.std.specs.Arc.{arc_value}
 use Rattle.r4_base.specs.Key.{rank}
-use Rattle.r4_cell.specs.declared.change.Fresh.{Fresh}
+use Rattle.r4_extent_demands.specs.r4_cell.declared.change.Fresh.{Fresh}
 use Rattle.r4_content.specs.Held.{edits_of}
 use Rattle.r4_extent_build.specs.Turns.{growing_turn}
 use Rattle.r4_extent_build.proofs.OneTurn.{does_turn, is_turned, may_turn}

@@ -4,7 +4,7 @@ use Rattle.std.proofs.lemmas.List.{append_assoc}
 use Rattle.std.proofs.lemmas.List.Elements.{filter-append}
 use Rattle.std.proofs.lemmas.Result.{on_ok_weaker}
 use Rattle.r4_content.specs.Held.{interval_of}
-use Rattle.r4_measure.specs.r4_reach.Reach.{is_body}
+use Rattle.r4_build.specs.r4_measure.r4_reach.Reach.{is_body}
 use Rattle.r4_extent_change.proofs.beside.+cut_each.Goals as goal
 
 pub returns-in_ok-cut-in-Some : goal.returns-in_ok-cut-in-Some

@@ -4,7 +4,7 @@ use Rattle.std.proofs.lemmas.List.{append_assoc}
 use Rattle.std.proofs.lemmas.List.Elements.{filter-append}
 use Rattle.std.proofs.lemmas.Result.{on_ok_weaker}
 use Rattle.r4_content.specs.Held.{pair_of}
-use Rattle.r4_leaf_edits.specs.Suiting.{is_byte}
+use Rattle.r4_build.specs.r4_leaf_edits.Suiting.{is_byte}
 use Rattle.r4_extent_change.proofs.beside.+put_each.Goals as goal
 
 pub returns-in_ok-put-in-Some : goal.returns-in_ok-put-in-Some

@@ -1,8 +1,8 @@
 use Rattle.std.proofs.Common.{◌≡◌, ◌++◌, map, not, sym, ap, ◌∙◌}
 use Rattle.std.specs.List.{filter, flat_map}
 use Rattle.r4_content.specs.Held.{fill_pairs, interval_of, pair_of, run_pairs}
-use Rattle.r4_leaf_edits.specs.Suiting.{is_byte}
-use Rattle.r4_measure.specs.r4_reach.Reach.{is_body}
+use Rattle.r4_build.specs.r4_leaf_edits.Suiting.{is_byte}
+use Rattle.r4_build.specs.r4_measure.r4_reach.Reach.{is_body}
 use Rattle.r4_extent_change.proofs.NoBytes.{values_left}
 use Rattle.r4_extent_change.proofs.beside.without_bytes.Goals as goal
 

@@ -4,12 +4,12 @@ use Rattle.std.specs.Prelude.{◌≤◌, Contains, length}
 use Rattle.r4_build.specs.Building.{AreNumbered}
 use Rattle.r4_content.specs.Edited.{Edits}
 use Rattle.r4_content.specs.Held.{edits_of}
-use Rattle.r4_measure.specs.r4_cell.Patch.{IsChange}
-use Rattle.r4_measure.specs.r4_cell.Seen.{CellSeen}
-use Rattle.r4_measure.specs.r4_cell.declared.change.Change.{Change}
-use Rattle.r4_measure.specs.r4_patch.Effect.{HasEffect}
-use Rattle.r4_measure.specs.r4_patch.Joining.{patch_of_change}
-use Rattle.r4_measure.specs.r4_patch.Part.{MeetsPart}
+use Rattle.r4_build.specs.r4_measure.r4_cell.Patch.{IsChange}
+use Rattle.r4_build.specs.r4_measure.r4_cell.Seen.{CellSeen}
+use Rattle.r4_build.specs.r4_measure.r4_cell.declared.change.Change.{Change}
+use Rattle.r4_build.specs.r4_measure.r4_patch.Effect.{HasEffect}
+use Rattle.r4_build.specs.r4_measure.r4_patch.Joining.{patch_of_change}
+use Rattle.r4_build.specs.r4_measure.r4_patch.Part.{MeetsPart}
 use Rattle.r4_extent_change.specs.Beside.{turning_among}
 use Rattle.r4_extent_change.specs.Changing.{grown_keys, grown_values, most_grown}
 use Rattle.r4_extent_change.proofs.NoBytes.{suit_leaves}

@@ -6,12 +6,12 @@ use Rattle.r4_content.specs.Edited.{Edits}
 use Rattle.r4_content.specs.Held.{edits_of}
 use Rattle.r4_extent_loss.specs.Losing.{Loss}
 use Rattle.r4_extent_loss.specs.LosingEach.{loss_of}
-use Rattle.r4_measure.specs.r4_cell.Patch.{IsChange}
-use Rattle.r4_measure.specs.r4_cell.Seen.{CellSeen}
-use Rattle.r4_measure.specs.r4_cell.declared.change.Change.{Change}
-use Rattle.r4_measure.specs.r4_patch.Effect.{HasEffect}
-use Rattle.r4_measure.specs.r4_patch.Joining.{patch_of_change}
-use Rattle.r4_measure.specs.r4_patch.Part.{MeetsPart}
+use Rattle.r4_build.specs.r4_measure.r4_cell.Patch.{IsChange}
+use Rattle.r4_build.specs.r4_measure.r4_cell.Seen.{CellSeen}
+use Rattle.r4_build.specs.r4_measure.r4_cell.declared.change.Change.{Change}
+use Rattle.r4_build.specs.r4_measure.r4_patch.Effect.{HasEffect}
+use Rattle.r4_build.specs.r4_measure.r4_patch.Joining.{patch_of_change}
+use Rattle.r4_build.specs.r4_measure.r4_patch.Part.{MeetsPart}
 use Rattle.r4_extent_change.specs.Among.{losses_among}
 use Rattle.r4_extent_change.specs.Losing.{lost_keys, lost_values, most_lost}
 use Rattle.r4_extent_change.proofs.LostSteps.{Lost, effect_is, few_lost, left_numbers, may_make, may_regraft, of_cells}

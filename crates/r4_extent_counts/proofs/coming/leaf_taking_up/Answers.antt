@@ -1,8 +1,8 @@
 use Rattle.std.proofs.Common.{◌≡◌, ap, arith, rules, ◌∙◌}
 use Rattle.std.specs.Prelude.{length}
 use Rattle.r4_base.specs.Key.{rank}
-use Rattle.r4_graft.specs.Splices.{parted}
-use Rattle.r4_graft.proofs.Placed.{place_within}
+use Rattle.r4_extent_demands.specs.r4_graft.Splices.{parted}
+use Rattle.r4_extent_demands.proofs.r4_graft.Placed.{place_within}
 use Rattle.r4_extent_demands.proofs.Rooms.{follow_room}
 use Rattle.r4_extent_counts.proofs.Counts.{taking_is}
 use Rattle.r4_extent_counts.proofs.coming.leaf_taking_up.Goals as goal

@@ -1,8 +1,8 @@
 use Rattle.std.proofs.Common.{◌≡◌, ◌+◌, List, ap, rules, subst, sym, ◌∙◌}
 use Rattle.std.specs.Prelude.{All, sum_by}
 use Rattle.r4_base.specs.Key.{rank}
-use Rattle.r4_branch.specs.declared.piece.TwigPiece.{TwigPiece}
-use Rattle.r4_cell.specs.Seen.{node_of}
+use Rattle.r4_extent_demands.specs.r4_branch.declared.piece.TwigPiece.{TwigPiece}
+use Rattle.r4_extent_demands.specs.r4_cell.Seen.{node_of}
 use Rattle.r4_content.specs.Held.{edits_of}
 use Rattle.r4_extent_demands.specs.r4_reach.Needs.{cut_pieces}
 use Rattle.r4_extent_demands.specs.r4_reach.Touched.{going}

@@ -1,7 +1,7 @@
 use Rattle.std.proofs.Common.{◌+◌, ◌*◌, ◌/◌, ap, arith, sym, ◌∙◌}
 use Rattle.r4_base.specs.Key.{rank}
 use Rattle.r4_content.specs.Held.{edits_of}
-use Rattle.r4_graft.proofs.Halves.{later_rank}
+use Rattle.r4_extent_demands.proofs.r4_graft.Halves.{later_rank}
 use Rattle.r4_extent_demands.specs.r4_reach.Needs.{gets_bytes}
 use Rattle.r4_extent_demands.proofs.Gains.{none_gets}
 use Rattle.r4_extent_counts.proofs.Counts.{in_halves, none_gaining}

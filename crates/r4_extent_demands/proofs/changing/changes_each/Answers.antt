@@ -5,12 +5,12 @@ use Rattle.std.proofs.lemmas.List.{drop_all}
 use Rattle.r4_base.specs.Cell.{cell_fault}
 use Rattle.r4_base.specs.Key.{rank}
 use Rattle.r4_base.specs.Node.{Item, items_of}
-use Rattle.r4_branch.specs.Pieces.{pieces_in}
-use Rattle.r4_branch.proofs.Lying.{lie_sound}
-use Rattle.r4_branch.proofs.Standing.{stand_lie}
+use Rattle.r4_graft.specs.r4_branch.Pieces.{pieces_in}
+use Rattle.r4_graft.proofs.r4_branch.Lying.{lie_sound}
+use Rattle.r4_graft.proofs.r4_branch.Standing.{stand_lie}
 use Rattle.r4_content.specs.Held.{edits_of}
 use Rattle.r4_bodies.proofs.r4_leaf_demands.Weighed.{block_is}
-use Rattle.r4_node40.specs.View.{item_shown}
+use Rattle.r4_graft.specs.r4_node40.View.{item_shown}
 use Rattle.r4_extent_demands.specs.Changing.{is_changed}
 use Rattle.r4_extent_demands.proofs.Changes.{items_any}
 use Rattle.r4_extent_demands.proofs.changing.changes_each.Goals as goal

@@ -6,10 +6,10 @@ use Rattle.r4_base.specs.Extents.{units_of as units_in_body}
 use Rattle.r4_base.specs.Key.{later}
 use Rattle.r4_base.specs.declared.items.Unit.{Unit as ExtentUnit}
 use Rattle.r4_base.specs.declared.key.Key.{Key}
-use Rattle.r4_branch.specs.Pieces.{unit_pieces}
-use Rattle.r4_branch.specs.declared.piece.TwigPart.TheVariants.{Blocks}
-use Rattle.r4_branch.proofs.SoundItems.{extent_item}
-use Rattle.r4_branch.proofs.UnitPieces.{blocks_more, blocks_within, lawful_at, some_width}
+use Rattle.r4_graft.specs.r4_branch.Pieces.{unit_pieces}
+use Rattle.r4_graft.specs.r4_branch.declared.piece.TwigPart.TheVariants.{Blocks}
+use Rattle.r4_graft.proofs.r4_branch.SoundItems.{extent_item}
+use Rattle.r4_graft.proofs.r4_branch.UnitPieces.{blocks_more, blocks_within, lawful_at, some_width}
 use Rattle.r4_content.specs.Held.{edits_of}
 use Rattle.r4_twig.proofs.Faults.{body_lawful}
 use Rattle.r4_extent_demands.specs.Changing.{is_changed}

@@ -2,7 +2,7 @@ use Rattle.std.proofs.Common.{◌≡◌, take}
 use Rattle.std.specs.List.{list_any}
 use Rattle.std.specs.Prelude.{drop}
 use Rattle.r4_base.specs.Extents.{blocks_in, units_of}
-use Rattle.r4_branch.specs.Pieces.{unit_pieces}
+use Rattle.r4_graft.specs.r4_branch.Pieces.{unit_pieces}
 use Rattle.r4_content.specs.Held.{edits_of}
 use Rattle.r4_extent_demands.specs.Changing.{is_changed}
 use Rattle.r4_extent_demands.proofs.changing.changes_extent.Given as goal

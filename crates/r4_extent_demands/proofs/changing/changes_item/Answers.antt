@@ -1,9 +1,9 @@
 use Rattle.std.proofs.Common.{ap, sym, inl, inr, ◌∙◌}
 use Rattle.std.specs.List.{list_any}
 use Rattle.std.proofs.lemmas.Bool.{ne_eqb}
-use Rattle.r4_branch.proofs.ItemPieces.{extent_pieces}
+use Rattle.r4_graft.proofs.r4_branch.ItemPieces.{extent_pieces}
 use Rattle.r4_content.specs.Held.{edits_of}
-use Rattle.r4_node40.specs.View.{item_shown}
+use Rattle.r4_graft.specs.r4_node40.View.{item_shown}
 use Rattle.r4_extent_demands.specs.Changing.{is_changed}
 use Rattle.r4_extent_demands.proofs.Changes.{pointer_still}
 use Rattle.r4_extent_demands.proofs.changing.changes_item.Goals as goal

@@ -1,7 +1,7 @@
 use Rattle.std.proofs.Common.{sym, ◌∙◌}
 use Rattle.std.specs.Option.{option_copied}
 use Rattle.std.specs.Prelude.{◌||◌}
-use Rattle.r4_cell.specs.Seen.{node_of}
+use Rattle.r4_bodies.specs.r4_cell.Seen.{node_of}
 use Rattle.r4_content.specs.Held.{edits_of}
 use Rattle.r4_extent_demands.specs.Changing.{changes_units}
 use Rattle.r4_extent_demands.proofs.Changes.{changes_both}

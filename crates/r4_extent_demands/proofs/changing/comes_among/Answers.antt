@@ -1,4 +1,4 @@
-use Rattle.r4_cell.specs.Seen.{node_of}
+use Rattle.r4_bodies.specs.r4_cell.Seen.{node_of}
 use Rattle.r4_extent_demands.specs.Changing.{comes_in}
 use Rattle.r4_extent_demands.proofs.PutsInto.{any_is}
 use Rattle.r4_extent_demands.proofs.changing.comes_among.Goals as goal

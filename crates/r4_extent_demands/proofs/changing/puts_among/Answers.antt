@@ -1,6 +1,6 @@
 use Rattle.std.specs.Option.{option_copied}
 use Rattle.std.proofs.Common.{sym, ◌∙◌}
-use Rattle.r4_cell.specs.Seen.{node_of}
+use Rattle.r4_bodies.specs.r4_cell.Seen.{node_of}
 use Rattle.r4_content.specs.Held.{edits_of}
 use Rattle.r4_extent_demands.specs.Ranges.{puts_into}
 use Rattle.r4_extent_demands.proofs.PutsInto.{among_is, any_is}

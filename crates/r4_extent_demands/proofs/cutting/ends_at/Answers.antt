@@ -3,7 +3,7 @@ use Rattle.std.specs.Prelude.{Option, ◌==◌}
 use Rattle.std.specs.Option.{option_map}
 use Rattle.std.proofs.lemmas.Bool.{eqb-false}
 use Rattle.r4_base.specs.Key.{rank}
-use Rattle.r4_branch.specs.Pieces.{is_at}
+use Rattle.r4_graft.specs.r4_branch.Pieces.{is_at}
 use Rattle.r4_extent_demands.proofs.Cuts.{last_at}
 use Rattle.r4_extent_demands.proofs.Nothing.{nothing}
 use Rattle.r4_extent_demands.proofs.cutting.ends_at.Goals as goal

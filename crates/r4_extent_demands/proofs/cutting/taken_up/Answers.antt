@@ -2,10 +2,10 @@ use Rattle.std.proofs.Common.{◌≡◌, ◌^◌, [], ◌∷◌, ◌++◌, List,
 use Rattle.std.specs.Prelude.{None}
 use Rattle.r4_base.specs.Key.{rank}
 use Rattle.r4_base.specs.declared.key.Key.{Key}
-use Rattle.r4_branch.specs.Pieces.{is_at, last_end}
-use Rattle.r4_branch.specs.declared.piece.TwigPart.TheVariants.{Pointer}
-use Rattle.r4_branch.specs.declared.piece.TwigPiece.{TwigPiece}
-use Rattle.r4_leaf_edits.proofs.KeyRanks.{key_again}
+use Rattle.r4_graft.specs.r4_branch.Pieces.{is_at, last_end}
+use Rattle.r4_graft.specs.r4_branch.declared.piece.TwigPart.TheVariants.{Pointer}
+use Rattle.r4_graft.specs.r4_branch.declared.piece.TwigPiece.{TwigPiece}
+use Rattle.r4_bodies.proofs.r4_leaf_edits.KeyRanks.{key_again}
 use Rattle.r4_extent_demands.specs.Pieces.{has_leaf_end}
 use Rattle.r4_extent_demands.proofs.Cuts.{taken_at, taken_left, taken_new}
 use Rattle.r4_extent_demands.proofs.Nothing.{nothing}

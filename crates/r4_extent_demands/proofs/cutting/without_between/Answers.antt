@@ -1,7 +1,7 @@
 use Rattle.std.proofs.Common.{List, arith, subst, sym}
 use Rattle.std.specs.Prelude.{All}
 use Rattle.r4_base.specs.Key.{rank}
-use Rattle.r4_branch.specs.declared.piece.TwigPiece.{TwigPiece}
+use Rattle.r4_graft.specs.r4_branch.declared.piece.TwigPiece.{TwigPiece}
 use Rattle.r4_graft.proofs.Placed.{place_within}
 use Rattle.r4_extent_demands.specs.Pieces.{HasRoom}
 use Rattle.r4_extent_demands.proofs.Rooms.{spliced_room}

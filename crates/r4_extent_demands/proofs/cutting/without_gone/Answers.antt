@@ -2,10 +2,10 @@ use Rattle.std.proofs.Common.{[], ◌∷◌, ◌++◌, List, map, not, ◌&&◌,
 use Rattle.std.specs.List.{list_any}
 use Rattle.std.proofs.lemmas.List.{take_more}
 use Rattle.std.proofs.lemmas.List.Elements.{filter-append}
-use Rattle.r4_branch.specs.declared.piece.TwigPart.TheVariants.{Pointer}
-use Rattle.r4_branch.specs.declared.piece.TwigPiece.{TwigPiece}
+use Rattle.r4_graft.specs.r4_branch.declared.piece.TwigPart.TheVariants.{Pointer}
+use Rattle.r4_graft.specs.r4_branch.declared.piece.TwigPiece.{TwigPiece}
 use Rattle.r4_bodies.specs.r4_marking.Marks.{heard_seen}
-use Rattle.r4_leaf_edits.specs.r4_reach.Needs.{points_to, without_gone}
+use Rattle.r4_bodies.specs.r4_leaf_edits.r4_reach.Needs.{points_to, without_gone}
 use Rattle.r4_extent_demands.proofs.cutting.without_gone.Goals as goal
 
 -- what stands for no piece

@@ -3,7 +3,7 @@ use Rattle.std.proofs.lemmas.Bool.{cases_lt}
 use Rattle.r4_base.specs.Key.{rank}
 use Rattle.r4_content.specs.Held.{edits_of}
 use Rattle.r4_graft.proofs.Halves.{later_rank}
-use Rattle.r4_leaf_edits.specs.r4_reach.Needs.{gets_bytes}
+use Rattle.r4_bodies.specs.r4_leaf_edits.r4_reach.Needs.{gets_bytes}
 use Rattle.r4_extent_demands.proofs.Gains.{none_gets}
 use Rattle.r4_extent_demands.proofs.gaining.+blocks_before.Goals as goal
 

@@ -3,8 +3,8 @@ use Rattle.std.specs.List.{flat_map}
 use Rattle.r4_base.specs.Key.{rank}
 use Rattle.r4_content.specs.Edited.{put_keys}
 use Rattle.r4_content.specs.Held.{fill_pairs, pair_of, run_pairs}
-use Rattle.r4_leaf_edits.specs.r4_reach.Needs.{is_met}
-use Rattle.r4_leaf_edits.proofs.Touched.{fills_met, keys_met, or_false, or_true}
+use Rattle.r4_bodies.specs.r4_leaf_edits.r4_reach.Needs.{is_met}
+use Rattle.r4_bodies.proofs.r4_leaf_edits.Touched.{fills_met, keys_met, or_false, or_true}
 use Rattle.r4_extent_demands.proofs.gaining.puts_in.Goals as goal
 
 pub returns-then-meets_fills : goal.returns-then-meets_fills

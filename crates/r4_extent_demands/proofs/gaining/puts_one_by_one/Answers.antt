@@ -3,8 +3,8 @@ use Rattle.std.specs.List.{flat_map}
 use Rattle.r4_base.specs.Key.{rank}
 use Rattle.r4_content.specs.Edited.{put_keys}
 use Rattle.r4_content.specs.Held.{pair_of, run_pairs}
-use Rattle.r4_leaf_edits.specs.r4_reach.Needs.{is_met}
-use Rattle.r4_leaf_edits.proofs.Touched.{keys_met, or_false, or_true, values_met}
+use Rattle.r4_bodies.specs.r4_leaf_edits.r4_reach.Needs.{is_met}
+use Rattle.r4_bodies.proofs.r4_leaf_edits.Touched.{keys_met, or_false, or_true, values_met}
 use Rattle.r4_extent_demands.proofs.gaining.puts_one_by_one.Goals as goal
 
 pub returns-then-meets_runs : goal.returns-then-meets_runs

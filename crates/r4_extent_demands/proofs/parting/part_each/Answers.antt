@@ -2,8 +2,8 @@ use Rattle.std.proofs.Common.{[], ◌++◌, get_or, sym, ap, subst, ◌∙◌, a
 use Rattle.std.specs.Prelude.{All}
 use Rattle.std.proofs.lemmas.List.{take_all}
 use Rattle.r4_base.specs.Key.{rank}
-use Rattle.r4_branch.specs.declared.piece.TwigPart.TheVariants.{Pointer}
-use Rattle.r4_branch.specs.declared.piece.TwigPiece.{TwigPiece}
+use Rattle.r4_graft.specs.r4_branch.declared.piece.TwigPart.TheVariants.{Pointer}
+use Rattle.r4_graft.specs.r4_branch.declared.piece.TwigPiece.{TwigPiece}
 use Rattle.r4_graft.specs.Splices.{parted, parted_piece}
 use Rattle.r4_graft.proofs.Parts.{parted_more}
 use Rattle.r4_extent_demands.specs.Pieces.{HasRoom}

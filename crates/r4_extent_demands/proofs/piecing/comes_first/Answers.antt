@@ -1,8 +1,8 @@
 use Rattle.std.proofs.Common.{◌≡◌, ap, sym, ◌∙◌}
 use Rattle.r4_base.specs.Key.{rank}
-use Rattle.r4_cell.specs.Seen.{node_of}
-use Rattle.r4_leaf.specs.Units.{is_between}
-use Rattle.r4_leaf_edits.proofs.r4_path.Rising.{hi_is, lo_is}
+use Rattle.r4_bodies.specs.r4_cell.Seen.{node_of}
+use Rattle.r4_bodies.specs.r4_leaf.Units.{is_between}
+use Rattle.r4_bodies.proofs.r4_leaf_edits.r4_path.Rising.{hi_is, lo_is}
 use Rattle.r4_extent_demands.proofs.piecing.comes_first.Goals as goal
 
 pub returns : goal.returns

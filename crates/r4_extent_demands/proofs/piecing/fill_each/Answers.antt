@@ -2,10 +2,10 @@ use Rattle.std.proofs.Common.{[], ◌∷◌, ◌++◌, List, ap, arith, get_or, 
 use Rattle.std.specs.List.{flat_map}
 use Rattle.std.proofs.lemmas.Grind.{flat_map-append}
 use Rattle.std.proofs.lemmas.List.{append-nil, take_more}
-use Rattle.r4_branch.specs.declared.piece.TwigPart.TheVariants.{Pointer}
-use Rattle.r4_branch.specs.declared.piece.TwigPiece.{TwigPiece}
+use Rattle.r4_graft.specs.r4_branch.declared.piece.TwigPart.TheVariants.{Pointer}
+use Rattle.r4_graft.specs.r4_branch.declared.piece.TwigPiece.{TwigPiece}
 use Rattle.r4_content.specs.Held.{edits_of}
-use Rattle.r4_leaf_edits.specs.r4_reach.Needs.{filled}
+use Rattle.r4_bodies.specs.r4_leaf_edits.r4_reach.Needs.{filled}
 use Rattle.r4_extent_demands.proofs.piecing.fill_each.Goals as goal
 
 -- what stands for no piece

@@ -5,13 +5,13 @@ use Rattle.std.specs.Prelude.{All, not, ◌&&◌}
 use Rattle.std.proofs.lemmas.List.Elements.{All-filter}
 use Rattle.r4_base.specs.Key.{rank}
 use Rattle.r4_base.specs.Node.{items_of}
-use Rattle.r4_branch.specs.Pieces.{pieces_in, twig_bytes}
-use Rattle.r4_branch.specs.declared.piece.TwigPiece.{TwigPiece}
-use Rattle.r4_cell.specs.Seen.{node_of}
+use Rattle.r4_graft.specs.r4_branch.Pieces.{pieces_in, twig_bytes}
+use Rattle.r4_graft.specs.r4_branch.declared.piece.TwigPiece.{TwigPiece}
+use Rattle.r4_bodies.specs.r4_cell.Seen.{node_of}
 use Rattle.r4_content.specs.Held.{edits_of}
 use Rattle.r4_bodies.proofs.r4_leaf_demands.Weighed.{block_is}
 use Rattle.r4_bodies.specs.r4_marking.Marks.{heard_seen}
-use Rattle.r4_leaf_edits.specs.r4_reach.Needs.{pieces_after, points_to, without_gone}
+use Rattle.r4_bodies.specs.r4_leaf_edits.r4_reach.Needs.{pieces_after, points_to, without_gone}
 use Rattle.r4_extent_demands.specs.Pieces.{AreInOrder, HasRoom, remade}
 use Rattle.r4_extent_demands.proofs.Bounded.{follow_lies, lies_filter, without_bytes}
 use Rattle.r4_extent_demands.proofs.Rooms.{follow_room}

@@ -2,11 +2,11 @@ use Rattle.std.proofs.Common.{◌≤◌, List, ap, subst, sym, ◌∙◌}
 use Rattle.std.specs.List.{flat_map}
 use Rattle.std.specs.Prelude.{All}
 use Rattle.r4_base.specs.Key.{rank}
-use Rattle.r4_branch.specs.Pieces.{twig_bytes}
-use Rattle.r4_branch.specs.declared.piece.TwigPiece.{TwigPiece}
-use Rattle.r4_cell.specs.Seen.{node_of}
+use Rattle.r4_graft.specs.r4_branch.Pieces.{twig_bytes}
+use Rattle.r4_graft.specs.r4_branch.declared.piece.TwigPiece.{TwigPiece}
+use Rattle.r4_bodies.specs.r4_cell.Seen.{node_of}
 use Rattle.r4_content.specs.Held.{edits_of}
-use Rattle.r4_leaf_edits.specs.r4_reach.Needs.{filled, with_coming}
+use Rattle.r4_bodies.specs.r4_leaf_edits.r4_reach.Needs.{filled, with_coming}
 use Rattle.r4_extent_demands.specs.Pieces.{HasRoom}
 use Rattle.r4_extent_demands.proofs.Bounded.{remade_few}
 use Rattle.r4_extent_demands.proofs.piecing.remade.Goals as goal

@@ -3,11 +3,11 @@ use Rattle.std.specs.Option.{option_copied}
 use Rattle.r4_base.specs.Key.{rank}
 use Rattle.r4_base.specs.Node.{Item, items_of}
 use Rattle.r4_content.specs.Held.{edits_of}
-use Rattle.r4_leaf.specs.Items.{Lie}
-use Rattle.r4_leaf.specs.Remade.{AreWithin}
-use Rattle.r4_leaf.specs.declared.remaking.Given.{Given}
-use Rattle.r4_leaf_edits.specs.Made.{cuts_in}
-use Rattle.r4_node40.specs.View.{view_items}
+use Rattle.r4_bodies.specs.r4_leaf.Items.{Lie}
+use Rattle.r4_bodies.specs.r4_leaf.Remade.{AreWithin}
+use Rattle.r4_bodies.specs.r4_leaf.declared.remaking.Given.{Given}
+use Rattle.r4_bodies.specs.r4_leaf_edits.Made.{cuts_in}
+use Rattle.r4_graft.specs.r4_node40.View.{view_items}
 use Rattle.r4_extent_demands.proofs.Puts.{can, measured, measured_few, none_of_leaf, told_suits, within_more}
 use Rattle.r4_extent_demands.proofs.putting.bytes_put.Goals as goal
 

@@ -4,7 +4,7 @@ use Rattle.std.specs.Prelude.{◌&&◌, Some}
 use Rattle.r4_base.specs.Key.{rank}
 use Rattle.r4_content.specs.Edited.{is_between}
 use Rattle.r4_bodies.specs.r4_leaf_demands.Touching.{span_of}
-use Rattle.r4_leaf_edits.specs.r4_reach.Reach.{is_body}
+use Rattle.r4_bodies.specs.r4_leaf_edits.r4_reach.Reach.{is_body}
 use Rattle.r4_extent_demands.specs.Sizes.{end_of_bytes}
 use Rattle.r4_extent_demands.proofs.PutsInto.{spread_into}
 use Rattle.r4_extent_demands.proofs.ranges.puts_beside.Goals as goal

@@ -2,8 +2,8 @@ use Rattle.std.proofs.Common.{◌++◌, sym, ◌∙◌, ap, map}
 use Rattle.r4_base.specs.Key.{rank}
 use Rattle.r4_content.specs.Edited.{put_keys}
 use Rattle.r4_content.specs.Held.{edits_of, interval_of}
-use Rattle.r4_leaf_edits.proofs.Touched.{intervals_met, met_both, or_false, or_true}
-use Rattle.r4_leaf_edits.specs.r4_reach.Needs.{is_met}
+use Rattle.r4_bodies.proofs.r4_leaf_edits.Touched.{intervals_met, met_both, or_false, or_true}
+use Rattle.r4_bodies.specs.r4_leaf_edits.r4_reach.Needs.{is_met}
 use Rattle.r4_extent_demands.proofs.ranges.puts_some.Goals as goal
 
 pub returns-then-meets_intervals : goal.returns-then-meets_intervals

@@ -1,7 +1,7 @@
 use Rattle.std.proofs.Common.{◌≡◌, sym, subst, true, ◌∙◌}
 use Rattle.std.specs.Prelude.{◌↔◌}
 use Rattle.r4_bodies.specs.r4_leaf_demands.Touching.{span_of}
-use Rattle.r4_leaf_edits.proofs.Touched.{intervals_met}
+use Rattle.r4_bodies.proofs.r4_leaf_edits.Touched.{intervals_met}
 use Rattle.r4_extent_demands.specs.Ranges.{Holds}
 use Rattle.r4_extent_demands.specs.declared.ranges.Way.{Way}
 use Rattle.r4_extent_demands.proofs.ranges.range_has.Goals as goal

@@ -1,11 +1,11 @@
 use Rattle.std.proofs.Common.{◌≡◌, ◌+◌, ◌-◌, ◌*◌, [], ◌∷◌, ◌++◌, List, rules, ap, arith, subst, sym, ◌∙◌}
 use Rattle.r4_base.proofs.Keys.{is_key}
 use Rattle.r4_base.specs.Key.{IsKey, offset_of, rank}
-use Rattle.r4_branch.specs.declared.piece.TwigPiece.{TwigPiece}
+use Rattle.r4_graft.specs.r4_branch.declared.piece.TwigPiece.{TwigPiece}
 use Rattle.r4_content.specs.Held.{edits_of}
 use Rattle.r4_graft.proofs.Halves.{later_key, later_rank}
-use Rattle.r4_leaf_edits.proofs.KeyRanks.{key_again}
-use Rattle.r4_leaf_edits.specs.r4_reach.Needs.{gets_bytes, runs}
+use Rattle.r4_bodies.proofs.r4_leaf_edits.KeyRanks.{key_again}
+use Rattle.r4_bodies.specs.r4_leaf_edits.r4_reach.Needs.{gets_bytes, runs}
 use Rattle.r4_extent_demands.specs.Pieces.{block_at}
 use Rattle.r4_extent_demands.proofs.Firsts.{key_at}
 use Rattle.r4_extent_demands.proofs.Runs.{last_stretch, next_stretch}

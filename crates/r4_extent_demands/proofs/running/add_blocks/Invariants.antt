@@ -1,7 +1,7 @@
 use Rattle.std.proofs.Common.{◌≡◌, ◌+◌, ◌-◌, ◌*◌, ◌++◌, ◌≤◌}
 use Rattle.r4_base.specs.Key.{rank}
 use Rattle.r4_content.specs.Held.{edits_of}
-use Rattle.r4_leaf_edits.specs.r4_reach.Needs.{gets_bytes, runs}
+use Rattle.r4_bodies.specs.r4_leaf_edits.r4_reach.Needs.{gets_bytes, runs}
 use Rattle.r4_extent_demands.proofs.running.add_blocks.Given as goal
 
 abbrev pub invariant-loop-done : goal.invariant-loop-done

@@ -7,15 +7,15 @@ use Rattle.r4_base.specs.Key.{rank}
 use Rattle.r4_base.specs.Node.{Item}
 use Rattle.r4_base.specs.Tree.{Root as TreeRoot, Store}
 use Rattle.r4_base.specs.Value.{Value}
-use Rattle.r4_cell.specs.Seen.{CellSeen}
-use Rattle.r4_cell.specs.declared.change.Change.{Change}
-use Rattle.r4_edit.specs.Editing.{given_item}
-use Rattle.r4_edit.specs.Extents.{item_blocks}
-use Rattle.r4_edit.proofs.Spread.{nothing}
-use Rattle.r4_graft.specs.Splices.{IsBorder}
-use Rattle.r4_path.specs.Grafts.{AreBlocksOf, GraftsBelow, IsGraftBelowIn, IsGraftIn}
-use Rattle.r4_path.specs.TwigPieces.{ArePiecesOf, twig_pieces}
-use Rattle.r4_path.specs.Twigs.{Below}
+use Rattle.r4_work.specs.r4_cell.Seen.{CellSeen}
+use Rattle.r4_work.specs.r4_cell.declared.change.Change.{Change}
+use Rattle.r4_work.specs.r4_edit.Editing.{given_item}
+use Rattle.r4_work.specs.r4_edit.Extents.{item_blocks}
+use Rattle.r4_work.proofs.r4_edit.Spread.{nothing}
+use Rattle.r4_work.specs.r4_graft.Splices.{IsBorder}
+use Rattle.r4_work.specs.r4_path.Grafts.{AreBlocksOf, GraftsBelow, IsGraftBelowIn, IsGraftIn}
+use Rattle.r4_work.specs.r4_path.TwigPieces.{ArePiecesOf, twig_pieces}
+use Rattle.r4_work.specs.r4_path.Twigs.{Below}
 use Rattle.r4_extent_edit.specs.Between.{EndsAt, pieces_over}
 use Rattle.r4_extent_edit.specs.Setting.{IsSetUp, SetsUp, set_pieces}
 use Rattle.r4_extent_edit.proofs.Ends.{extent_ends}

@@ -4,8 +4,8 @@ use Rattle.std.specs.Arc.{arc_value}
 use Rattle.std.specs.Option.{option_map}
 use Rattle.r4_base.specs.Key.{rank}
 use Rattle.r4_base.specs.Value.{Value}
-use Rattle.r4_cell.specs.Seen.{CellSeen, node_of}
-use Rattle.r4_edit.specs.LeafParts.{HasLeft, HasRight}
+use Rattle.r4_work.specs.r4_cell.Seen.{CellSeen, node_of}
+use Rattle.r4_work.specs.r4_edit.LeafParts.{HasLeft, HasRight}
 use Rattle.r4_extent_edit.proofs.TurnEnds.{ends_at, first_is, last_is}
 use Rattle.r4_extent_edit.proofs.turning.ends_kept.Goals as goal
 

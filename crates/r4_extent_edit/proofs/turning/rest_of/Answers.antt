@@ -1,7 +1,7 @@
 use Rattle.std.proofs.Common.{◌≡◌, ap, sym, ◌∙◌, arith}
 use Rattle.std.proofs.lemmas.Bool.{eqb-true}
 use Rattle.r4_base.specs.Key.{rank}
-use Rattle.r4_cell.specs.Seen.{node_of}
+use Rattle.r4_work.specs.r4_cell.Seen.{node_of}
 use Rattle.r4_extent_edit.proofs.TurnEnds.{none_behind}
 use Rattle.r4_extent_edit.proofs.turning.rest_of.Goals as goal
 

@@ -8,14 +8,14 @@ use Rattle.r4_base.specs.Key.{rank}
 use Rattle.r4_base.specs.Node.{Item}
 use Rattle.r4_base.specs.Tree.{Root as TreeRoot, Store}
 use Rattle.r4_base.specs.Value.{Value}
-use Rattle.r4_cell.specs.Seen.{CellSeen}
-use Rattle.r4_cell.specs.declared.change.Change.{Change}
-use Rattle.r4_edit.specs.Editing.{given_item}
-use Rattle.r4_edit.specs.Extents.{given_cells, item_blocks, pointer_to}
-use Rattle.r4_graft.specs.Splices.{IsBorder}
-use Rattle.r4_path.specs.Grafts.{AreBlocksOf, GraftsBelow, IsGraftBelowIn, IsGraftIn}
-use Rattle.r4_path.specs.TwigPieces.{ArePiecesOf, twig_pieces}
-use Rattle.r4_path.specs.Twigs.{Below}
+use Rattle.r4_work.specs.r4_cell.Seen.{CellSeen}
+use Rattle.r4_work.specs.r4_cell.declared.change.Change.{Change}
+use Rattle.r4_work.specs.r4_edit.Editing.{given_item}
+use Rattle.r4_work.specs.r4_edit.Extents.{given_cells, item_blocks, pointer_to}
+use Rattle.r4_work.specs.r4_graft.Splices.{IsBorder}
+use Rattle.r4_work.specs.r4_path.Grafts.{AreBlocksOf, GraftsBelow, IsGraftBelowIn, IsGraftIn}
+use Rattle.r4_work.specs.r4_path.TwigPieces.{ArePiecesOf, twig_pieces}
+use Rattle.r4_work.specs.r4_path.Twigs.{Below}
 use Rattle.r4_extent_edit.specs.Between.{EndsAt, pieces_over}
 use Rattle.r4_extent_edit.specs.Turning.{IsTurnUp, TurnsUp, turned_pieces}
 use Rattle.r4_extent_edit.proofs.Ends.{extent_ends}

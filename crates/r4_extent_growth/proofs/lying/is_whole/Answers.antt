@@ -2,7 +2,7 @@ use Rattle.std.proofs.Common.{◌≡◌, ◌+◌, ◌^◌, false, true, ap, sym,
 use Rattle.std.specs.Prelude.{◌==◌, length, nat_lt, not}
 use Rattle.std.proofs.lemmas.Bool.{eq-eqb}
 use Rattle.r4_base.specs.Key.{offset_of, rank}
-use Rattle.r4_graft.proofs.Halves.{later_rank}
+use Rattle.r4_twig_asks.proofs.r4_graft.Halves.{later_rank}
 use Rattle.r4_extent_growth.proofs.Tests.{and_on, or_off}
 use Rattle.r4_extent_growth.proofs.lying.is_whole.Goals as goal
 

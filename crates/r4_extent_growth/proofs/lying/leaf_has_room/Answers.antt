@@ -3,14 +3,14 @@ use Rattle.std.specs.Prelude.{List}
 use Rattle.r4_base.specs.Key.{rank}
 use Rattle.r4_base.specs.declared.key.Key.{Key}
 use Rattle.r4_content.specs.Held.{edits_of}
-use Rattle.r4_leaf.proofs.Standing.{stand_lie}
-use Rattle.r4_leaf.specs.Items.{Lie}
-use Rattle.r4_leaf.specs.Remade.{AreWithin, CanPutAll, cut_all}
-use Rattle.r4_leaf.specs.Units.{LeafUnit}
-use Rattle.r4_measure.specs.r4_cell.Seen.{node_of}
-use Rattle.r4_measure.specs.r4_path.r4_node40.View.{view_items}
-use Rattle.r4_build.proofs.r4_edit.LeafLent.{lent_stands, lent_units}
-use Rattle.r4_build.proofs.Made.{gets_of, units_of_leaf}
+use Rattle.r4_twig_asks.proofs.r4_leaf.Standing.{stand_lie}
+use Rattle.r4_twig_asks.specs.r4_leaf.Items.{Lie}
+use Rattle.r4_twig_asks.specs.r4_leaf.Remade.{AreWithin, CanPutAll, cut_all}
+use Rattle.r4_twig_asks.specs.r4_leaf.Units.{LeafUnit}
+use Rattle.r4_extent_change.specs.r4_measure.r4_cell.Seen.{node_of}
+use Rattle.r4_extent_change.specs.r4_measure.r4_path.r4_node40.View.{view_items}
+use Rattle.r4_extent_change.proofs.r4_build.r4_edit.LeafLent.{lent_stands, lent_units}
+use Rattle.r4_extent_change.proofs.r4_build.Made.{gets_of, units_of_leaf}
 use Rattle.r4_extent_growth.proofs.InLeaves.{same_room, some_keys}
 use Rattle.r4_extent_growth.proofs.lying.leaf_has_room.Goals as goal
 

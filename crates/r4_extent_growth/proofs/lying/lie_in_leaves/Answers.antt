@@ -2,7 +2,7 @@ use Rattle.std.proofs.Common.{List, map, ap, sym, ◌∙◌}
 use Rattle.std.specs.Arc.{arc_value}
 use Rattle.std.specs.List.{list_all}
 use Rattle.r4_content.specs.Held.{interval_of, pair_of}
-use Rattle.r4_measure.specs.r4_cell.Seen.{CellSeen}
+use Rattle.r4_extent_change.specs.r4_measure.r4_cell.Seen.{CellSeen}
 use Rattle.r4_extent_growth.specs.Lying.{cut_lies, put_lies}
 use Rattle.r4_extent_growth.proofs.InLeaves.{values_lie}
 use Rattle.r4_extent_growth.proofs.Tests.{and_on}

@@ -1,10 +1,10 @@
 use Rattle.std.proofs.Common.{◌≡◌, ℕ, sym, ◌∙◌}
 use Rattle.std.specs.Prelude.{nat_lt}
 use Rattle.r4_base.specs.Key.{rank}
-use Rattle.r4_measure.proofs.r4_path.Rising.{hi_is, lo_is}
-use Rattle.r4_measure.specs.r4_cell.Seen.{CellSeen, node_of}
-use Rattle.r4_measure.specs.r4_leaf.Units.{is_between}
-use Rattle.r4_measure.specs.r4_reach.Touched.{coming}
+use Rattle.r4_extent_change.proofs.r4_measure.r4_path.Rising.{hi_is, lo_is}
+use Rattle.r4_extent_change.specs.r4_measure.r4_cell.Seen.{CellSeen, node_of}
+use Rattle.r4_extent_change.specs.r4_measure.r4_leaf.Units.{is_between}
+use Rattle.r4_extent_change.specs.r4_measure.r4_reach.Touched.{coming}
 use Rattle.r4_extent_growth.proofs.Tests.{and_off, and_on}
 use Rattle.r4_extent_growth.proofs.twigs.comes_into.Goals as goal
 

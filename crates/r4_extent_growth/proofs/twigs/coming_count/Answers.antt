@@ -1,8 +1,8 @@
 use Rattle.std.proofs.Common.{[], ◌∷◌, ap, arith, get_or, refl, sym, take, ◌∙◌}
 use Rattle.std.proofs.lemmas.List.{take_more}
-use Rattle.r4_extent_build.specs.Numbering.{coming_count}
-use Rattle.r4_extent_build.proofs.Numbers.{count_append, count_off, count_on}
-use Rattle.r4_extent_demands.proofs.Nothing.{nothing}
+use Rattle.r4_extent_change.specs.r4_extent_build.Numbering.{coming_count}
+use Rattle.r4_extent_change.proofs.r4_extent_build.Numbers.{count_append, count_off, count_on}
+use Rattle.r4_twig_asks.proofs.r4_extent_demands.Nothing.{nothing}
 use Rattle.r4_extent_growth.proofs.twigs.coming_count.Goals as goal
 use Rattle.r4_extent_growth.proofs.twigs.coming_count.Goals.{then-is_coming, else-is_coming}
 

@@ -1,6 +1,6 @@
 use Rattle.std.proofs.Common.{◌≡◌, ◌≤◌}
 use Rattle.std.specs.Prelude.{take}
-use Rattle.r4_extent_build.specs.Numbering.{coming_count}
+use Rattle.r4_extent_change.specs.r4_extent_build.Numbering.{coming_count}
 use Rattle.r4_extent_growth.proofs.twigs.coming_count.Given as goal
 
 abbrev pub invariant-loop-piece : goal.invariant-loop-piece

@@ -2,8 +2,8 @@ use Rattle.std.proofs.Common.{◌≡◌, false, ap, arith, length, sym, ◌∙�
 use Rattle.std.specs.Prelude.{◌==◌, is_some}
 use Rattle.std.proofs.lemmas.Bool.{eqb-false}
 use Rattle.r4_base.specs.Key.{rank}
-use Rattle.r4_extent_demands.proofs.Cuts.{last_at}
-use Rattle.r4_extent_demands.proofs.Nothing.{nothing}
+use Rattle.r4_twig_asks.proofs.r4_extent_demands.Cuts.{last_at}
+use Rattle.r4_twig_asks.proofs.r4_extent_demands.Nothing.{nothing}
 use Rattle.r4_extent_growth.proofs.Tests.{some_mapped}
 use Rattle.r4_extent_growth.proofs.twigs.end_in_unit.Goals as goal
 

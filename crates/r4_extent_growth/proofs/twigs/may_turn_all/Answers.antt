@@ -3,8 +3,8 @@ use Rattle.std.specs.Prelude.{Contains}
 use Rattle.std.proofs.lemmas.Bool.{cases_lt}
 use Rattle.std.specs.Arc.{arc_value}
 use Rattle.r4_content.specs.Held.{edits_of}
-use Rattle.r4_measure.specs.r4_cell.Seen.{CellSeen}
-use Rattle.r4_measure.specs.r4_path.TwigPieces.{ArePiecesOf, twig_pieces}
+use Rattle.r4_extent_change.specs.r4_measure.r4_cell.Seen.{CellSeen}
+use Rattle.r4_extent_change.specs.r4_measure.r4_path.TwigPieces.{ArePiecesOf, twig_pieces}
 use Rattle.r4_extent_change.specs.Beside.{turning_among}
 use Rattle.r4_extent_growth.specs.Turning.{may_turn_all}
 use Rattle.r4_extent_growth.proofs.AllTurn.{goes_on, needs_more, pieces_of_all, refused, rest_is}

@@ -2,8 +2,8 @@ use Rattle.std.proofs.Common.{◌≡◌, drop, map}
 use Rattle.std.specs.Arc.{arc_value}
 use Rattle.std.specs.Prelude.{Contains}
 use Rattle.r4_content.specs.Held.{edits_of}
-use Rattle.r4_measure.specs.r4_cell.Seen.{CellSeen}
-use Rattle.r4_measure.specs.r4_path.TwigPieces.{ArePiecesOf, twig_pieces}
+use Rattle.r4_extent_change.specs.r4_measure.r4_cell.Seen.{CellSeen}
+use Rattle.r4_extent_change.specs.r4_measure.r4_path.TwigPieces.{ArePiecesOf, twig_pieces}
 use Rattle.r4_extent_change.specs.Beside.{turning_among}
 use Rattle.r4_extent_growth.specs.Turning.{may_turn_all}
 use Rattle.r4_extent_growth.proofs.twigs.may_turn_all.Given as goal

@@ -2,8 +2,8 @@ use Rattle.std.proofs.Common.{◌≡◌, [], ◌∷◌, sym, ap, subst, ◌∙�
 use Rattle.std.specs.Prelude.{Contains}
 use Rattle.std.specs.Arc.{arc_value}
 use Rattle.r4_base.specs.Key.{rank}
-use Rattle.r4_cell.specs.Seen.{CellSeen}
-use Rattle.r4_patch.proofs.Members.{here}
+use Rattle.r4_extent_build.specs.r4_cell.Seen.{CellSeen}
+use Rattle.r4_extent_build.proofs.r4_patch.Members.{here}
 use Rattle.r4_extent_loss.specs.Losing.{leaf_at, taken_block}
 use Rattle.r4_extent_loss.specs.LosingEach.{loss_of}
 use Rattle.r4_extent_loss.proofs.losing.leaf_at.Goals as goal

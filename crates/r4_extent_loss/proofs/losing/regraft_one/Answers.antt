@@ -2,11 +2,11 @@ use Rattle.std.proofs.Common.{◌≡◌, ◌+◌, [], map, refl, sym, ap, subst,
 use Rattle.std.specs.Prelude.{Contains, Some}
 use Rattle.std.specs.Arc.{arc_value}
 use Rattle.r4_base.specs.Key.{rank}
-use Rattle.r4_cell.specs.Seen.{CellSeen, node_of}
+use Rattle.r4_extent_build.specs.r4_cell.Seen.{CellSeen, node_of}
 use Rattle.r4_content.specs.Held.{edits_of}
-use Rattle.r4_path.specs.Sharing.{IsSound}
-use Rattle.r4_reach.specs.Needs.{pieces_after}
-use Rattle.r4_twig_work.specs.Regrafting.{beside_of}
+use Rattle.r4_extent_build.specs.r4_path.Sharing.{IsSound}
+use Rattle.r4_extent_build.specs.r4_reach.Needs.{pieces_after}
+use Rattle.r4_extent_build.specs.r4_twig_work.Regrafting.{beside_of}
 use Rattle.r4_extent_loss.specs.Losing.{leaf_at, losing_turn, numbers_taken, taken_block, taken_id}
 use Rattle.r4_extent_loss.specs.LosingEach.{loss_of}
 use Rattle.r4_extent_loss.proofs.OneLoss.{count_is, does_turn, is_turned, may_turn, new_is, pieces_are, sounds}

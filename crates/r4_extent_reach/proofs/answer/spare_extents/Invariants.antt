@@ -2,9 +2,9 @@ use Rattle.std.proofs.Common.{◌≡◌, false, map, take}
 use Rattle.std.specs.Prelude.{Contains}
 use Rattle.std.specs.Arc.{arc_value}
 use Rattle.r4_base.specs.Tree.{Span}
-use Rattle.r4_cell.specs.Seen.{CellSeen, node_of}
+use Rattle.r4_extent_commands.specs.r4_cell.Seen.{CellSeen, node_of}
 use Rattle.r4_content.specs.Held.{interval_of}
-use Rattle.r4_touching.specs.r4_reach.Needs.{is_met}
+use Rattle.r4_extent_reaching.specs.r4_touching.r4_reach.Needs.{is_met}
 use Rattle.r4_extent_reach.proofs.answer.spare_extents.Given as goal
 
 abbrev pub invariant-loop-cell : goal.invariant-loop-cell

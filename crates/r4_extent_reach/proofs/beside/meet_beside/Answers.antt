@@ -4,11 +4,11 @@ use Rattle.std.specs.Prelude.{Contains, Option, nat_lt}
 use Rattle.r4_base.specs.Key.{rank}
 use Rattle.r4_content.specs.Held.{edits_of, interval_of}
 use Rattle.r4_extent_reaching.specs.r4_extent_touching.Holding.{AreLeftMet}
-use Rattle.r4_touching.specs.r4_reach.Needs.{going_of}
-use Rattle.r4_touching.specs.r4_reach.Touched.{Body}
+use Rattle.r4_extent_reaching.specs.r4_touching.r4_reach.Needs.{going_of}
+use Rattle.r4_extent_reaching.specs.r4_touching.r4_reach.Touched.{Body}
 use Rattle.r4_extent_reaching.specs.r4_reaching.Gathering.{AreAllMet}
-use Rattle.r4_search.specs.Keeping.{Shared, keeping_state, met_in}
-use Rattle.r4_search.specs.declared.pool.FetchFault.TheVariants.{Memory as NoMemory}
+use Rattle.r4_extent_asks.specs.r4_search.Keeping.{Shared, keeping_state, met_in}
+use Rattle.r4_extent_asks.specs.r4_search.declared.pool.FetchFault.TheVariants.{Memory as NoMemory}
 use Rattle.r4_extent_reach.specs.Meeting.{MeetsBeside, StopsAtLeft, StopsBesideOf, turns_by, turns_of}
 use Rattle.r4_extent_reach.proofs.Hung.{knows_each}
 use Rattle.r4_extent_reach.proofs.LeftMet.{all_beside, goes_beside, seen_of, stops_at_left}

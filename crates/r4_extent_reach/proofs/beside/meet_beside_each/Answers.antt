@@ -2,8 +2,8 @@ use Rattle.std.proofs.Common.{◌≡◌, arith, map, subst, sym, true}
 use Rattle.std.specs.Arc.{arc_value}
 use Rattle.std.specs.Prelude.{Contains}
 use Rattle.r4_base.specs.Key.{rank}
-use Rattle.r4_cell.specs.Seen.{CellSeen}
-use Rattle.r4_search.proofs.Walks.{goes_both, goes_same, handed, leaves_both, leaves_same}
+use Rattle.r4_extent_commands.specs.r4_cell.Seen.{CellSeen}
+use Rattle.r4_extent_asks.proofs.r4_search.Walks.{goes_both, goes_same, handed, leaves_both, leaves_same}
 use Rattle.r4_extent_reaching.specs.r4_extent_touching.Holding.{AreLeftMet}
 use Rattle.r4_extent_reach.specs.Meeting.{StopsBesideOf, turns_of}
 use Rattle.r4_extent_reach.proofs.LeftMet.{each_none, item_among, met_all, met_next, met_none, only_next, seen_of, stops_next}

@@ -2,9 +2,9 @@ use Rattle.std.proofs.Common.{◌≡◌, map, take, true}
 use Rattle.std.specs.Arc.{arc_value}
 use Rattle.std.specs.Prelude.{Contains}
 use Rattle.r4_base.specs.Key.{rank}
-use Rattle.r4_cell.specs.Seen.{CellSeen}
+use Rattle.r4_extent_commands.specs.r4_cell.Seen.{CellSeen}
 use Rattle.r4_extent_reaching.specs.r4_extent_touching.Holding.{AreLeftMet}
-use Rattle.r4_search.specs.Pool.{Goes, LeavesDevice}
+use Rattle.r4_extent_asks.specs.r4_search.Pool.{Goes, LeavesDevice}
 use Rattle.r4_extent_reach.specs.Meeting.{MeetsBeside, turns_of}
 use Rattle.r4_extent_reach.proofs.beside.meet_beside_each.Given as goal
 

@@ -1,10 +1,10 @@
 use Rattle.std.proofs.Common.{[], ◌∷◌, refl, subst, sym}
 use Rattle.std.specs.Prelude.{Option}
-use Rattle.r4_bodies.specs.Told.{intervals_of}
+use Rattle.r4_extent_asks.specs.r4_bodies.Told.{intervals_of}
 use Rattle.r4_content.specs.Held.{interval_of}
 use Rattle.r4_content.specs.declared.edits.Interval.{Interval}
-use Rattle.r4_touching.specs.Changed.{AddsKeys}
-use Rattle.r4_touching.proofs.Adding.{adds_one}
+use Rattle.r4_extent_reaching.specs.r4_touching.Changed.{AddsKeys}
+use Rattle.r4_extent_reaching.proofs.r4_touching.Adding.{adds_one}
 use Rattle.r4_extent_reach.proofs.keys.add_read.Goals as goal
 
 pub returns-in_ok-push : goal.returns-in_ok-push

@@ -1,6 +1,6 @@
 use Rattle.std.proofs.Common.{◌||◌, Bool, List, ap, map, ◌∙◌}
 use Rattle.std.proofs.lemmas.List.{map-append}
-use Rattle.r4_bodies.specs.Told.{intervals_of}
+use Rattle.r4_extent_asks.specs.r4_bodies.Told.{intervals_of}
 use Rattle.r4_content.specs.Edited.{Intervals, is_in}
 use Rattle.r4_content.specs.Held.{interval_of}
 use Rattle.r4_content.specs.declared.edits.Interval.{Interval}

@@ -1,13 +1,13 @@
 use Rattle.std.proofs.Common.{◌≡◌, ◌⊎◌, ◌||◌, ◌<◌, ◌≤◌, ℕ, List, ap, arith, map, ◌∙◌}
 use Rattle.std.proofs.lemmas.Result.{IfErr-weaker, on_ok_weaker}
 use Rattle.r4_base.specs.Key.{least, top}
-use Rattle.r4_bodies.specs.Told.{intervals_of}
+use Rattle.r4_extent_asks.specs.r4_bodies.Told.{intervals_of}
 use Rattle.r4_content.specs.Edited.{is_in}
 use Rattle.r4_content.specs.Held.{edits_of, interval_of}
 use Rattle.r4_content.specs.declared.edits.Interval.{Interval}
-use Rattle.r4_search.specs.Keeping.{keeping_state}
-use Rattle.r4_search.specs.declared.pool.FetchFault.TheVariants.{Memory as NoMemory}
-use Rattle.r4_search.proofs.Walks.{goes_both, handed}
+use Rattle.r4_extent_asks.specs.r4_search.Keeping.{keeping_state}
+use Rattle.r4_extent_asks.specs.r4_search.declared.pool.FetchFault.TheVariants.{Memory as NoMemory}
+use Rattle.r4_extent_asks.proofs.r4_search.Walks.{goes_both, handed}
 use Rattle.r4_extent_reach.specs.Meeting.{StopsAtLeft, StopsMeeting}
 use Rattle.r4_extent_reach.proofs.Going.{meets_on, on_both, on_same, on_touch}
 use Rattle.r4_extent_reach.proofs.AllMet.{first_stops, has_met, key_stops, left_stops}

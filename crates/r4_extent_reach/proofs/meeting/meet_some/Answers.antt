@@ -5,10 +5,10 @@ use Rattle.r4_base.proofs.FreshTree.{least_below}
 use Rattle.r4_content.specs.Edited.{is_in}
 use Rattle.r4_content.specs.Held.{interval_of}
 use Rattle.r4_extent_reaching.proofs.r4_reaching.Some.{one_kept}
-use Rattle.r4_search.specs.Keeping.{keeping_state}
-use Rattle.r4_search.proofs.Walks.{goes_same}
-use Rattle.r4_touching.specs.Touching.{StopsFor}
-use Rattle.r4_touching.proofs.Touched.{stops_wider}
+use Rattle.r4_extent_asks.specs.r4_search.Keeping.{keeping_state}
+use Rattle.r4_extent_asks.proofs.r4_search.Walks.{goes_same}
+use Rattle.r4_extent_reaching.specs.r4_touching.Touching.{StopsFor}
+use Rattle.r4_extent_reaching.proofs.r4_touching.Touched.{stops_wider}
 use Rattle.r4_extent_reach.proofs.Going.{on_same, on_touch}
 use Rattle.r4_extent_reach.proofs.AllMet.{first_on, first_same, held_one}
 use Rattle.r4_extent_reach.proofs.meeting.meet_some.Goals as goal

@@ -1,14 +1,14 @@
 use Rattle.std.proofs.Common.{◌≡◌, ◌++◌, ◌≤◌, ℕ, inl, Bool, true, ap, map, subst, sym, ◌∙◌}
 use Rattle.std.specs.Prelude.{None, reverse}
-use Rattle.r4_cell.specs.declared.change.Root.{Root}
+use Rattle.r4_extent_commands.specs.r4_cell.declared.change.Root.{Root}
 use Rattle.r4_content.specs.Edited.{Intervals}
 use Rattle.r4_content.specs.Held.{pairs_of}
 use Rattle.r4_content.specs.declared.seen.Seen.{Seen}
-use Rattle.r4_touching.proofs.r4_gather.Staying.{stays_same}
-use Rattle.r4_touching.specs.r4_gather.Asking.{EndsIn, StaysOver}
-use Rattle.r4_touching.specs.r4_gather.Finding.{asked_keys}
-use Rattle.r4_search.specs.Keeping.{keeping_state, met_in}
-use Rattle.r4_search.specs.declared.keeping.Keeping.{Keeping}
+use Rattle.r4_extent_reaching.proofs.r4_touching.r4_gather.Staying.{stays_same}
+use Rattle.r4_extent_reaching.specs.r4_touching.r4_gather.Asking.{EndsIn, StaysOver}
+use Rattle.r4_extent_reaching.specs.r4_touching.r4_gather.Finding.{asked_keys}
+use Rattle.r4_extent_asks.specs.r4_search.Keeping.{keeping_state, met_in}
+use Rattle.r4_extent_asks.specs.r4_search.declared.keeping.Keeping.{Keeping}
 use Rattle.r4_extent_reaching.specs.r4_reaching.Answers.{IsAllSeen, IsSamePool, StopsAsking, asked_by}
 use Rattle.r4_extent_reaching.proofs.r4_reaching.Ending.{is_all_seen, keeps_all, root_stays, same_pool, stays_joined, stops_asking}
 use Rattle.r4_extent_reach.proofs.Ending.{IsAnswered, stops_wider}

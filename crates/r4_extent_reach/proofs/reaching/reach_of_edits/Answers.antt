@@ -3,11 +3,11 @@ use Rattle.std.specs.Prelude.{Option}
 use Rattle.std.specs.Option.{option_copied}
 use Rattle.r4_extent_reaching.specs.Answers.{IsReach, StopsWriting}
 use Rattle.r4_extent_reaching.specs.Standing.{IsTooLong}
-use Rattle.r4_touching.specs.r4_gather.Finding.{asked_keys}
-use Rattle.r4_touching.specs.r4_reach.Touched.{Body, kind_reads}
+use Rattle.r4_extent_reaching.specs.r4_touching.r4_gather.Finding.{asked_keys}
+use Rattle.r4_extent_reaching.specs.r4_touching.r4_reach.Touched.{Body, kind_reads}
 use Rattle.r4_extent_reaching.proofs.r4_reaching.Touched.{handed_match}
-use Rattle.r4_search.specs.Keeping.{keeping_state}
-use Rattle.r4_touching.specs.Touching.{StopsFor}
+use Rattle.r4_extent_asks.specs.r4_search.Keeping.{keeping_state}
+use Rattle.r4_extent_reaching.specs.r4_touching.Touching.{StopsFor}
 use Rattle.r4_extent_reach.specs.Standing.{IsStood, MayBeShown, shown_keys}
 use Rattle.r4_extent_reach.proofs.Going.{on_both, on_same, on_touch, seen_on}
 use Rattle.r4_extent_reach.proofs.Planned.{has_body, long_stops, may_show}

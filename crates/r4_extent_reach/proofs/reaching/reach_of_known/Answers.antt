@@ -5,10 +5,10 @@ use Rattle.r4_content.specs.Held.{edits_of, interval_of}
 use Rattle.r4_content.specs.declared.edits.Interval.{Interval}
 use Rattle.r4_extent_asks.specs.r4_extent_demands.Sizes.{AreExtentEdits}
 use Rattle.r4_extent_reaching.specs.Answers.{IsReach, StopsWriting}
-use Rattle.r4_touching.specs.r4_gather.Finding.{asked_keys}
-use Rattle.r4_touching.specs.r4_reach.Touched.{Body, raw_changes}
+use Rattle.r4_extent_reaching.specs.r4_touching.r4_gather.Finding.{asked_keys}
+use Rattle.r4_extent_reaching.specs.r4_touching.r4_reach.Touched.{Body, raw_changes}
 use Rattle.r4_extent_reaching.proofs.r4_reaching.Touched.{handed_match}
-use Rattle.r4_search.specs.Keeping.{keeping_state}
+use Rattle.r4_extent_asks.specs.r4_search.Keeping.{keeping_state}
 use Rattle.r4_extent_reach.specs.Known.{AreChanges}
 use Rattle.r4_extent_reach.specs.Meeting.{HasMet}
 use Rattle.r4_extent_reach.proofs.Going.{body_still, on_same, seen_meets}

@@ -1,19 +1,19 @@
 use Rattle.std.proofs.Common.{◌≡◌, ◌||◌, ◌<◌, ◌≤◌, ℕ, Bool, List, ap, map, subst, ◌∙◌}
 use Rattle.std.specs.Arc.{arc_value}
 use Rattle.r4_base.specs.Key.{least, top}
-use Rattle.r4_bodies.specs.Told.{intervals_of}
-use Rattle.r4_cell.specs.Patch.{by_name, root_of_pair}
-use Rattle.r4_cell.specs.Seen.{CellSeen}
+use Rattle.r4_extent_asks.specs.r4_bodies.Told.{intervals_of}
+use Rattle.r4_extent_commands.specs.r4_cell.Patch.{by_name, root_of_pair}
+use Rattle.r4_extent_commands.specs.r4_cell.Seen.{CellSeen}
 use Rattle.r4_content.specs.Edited.{Intervals, is_in}
 use Rattle.r4_content.specs.Held.{edits_of, interval_of}
 use Rattle.r4_content.specs.declared.edits.Interval.{Interval}
 use Rattle.r4_extent_reaching.proofs.Assembled.{is_reach}
-use Rattle.r4_touching.specs.r4_gather.Finding.{asked_keys}
+use Rattle.r4_extent_reaching.specs.r4_touching.r4_gather.Finding.{asked_keys}
 use Rattle.r4_extent_asks.specs.r4_marking.Marks.{AreMarksOf}
-use Rattle.r4_touching.specs.r4_reach.Leaves.{more_in}
-use Rattle.r4_touching.specs.r4_reach.Needs.{Ask, demand_of}
-use Rattle.r4_touching.specs.r4_reach.Demand.{Demand}
-use Rattle.r4_search.specs.Keeping.{keeping_state}
+use Rattle.r4_extent_reaching.specs.r4_touching.r4_reach.Leaves.{more_in}
+use Rattle.r4_extent_reaching.specs.r4_touching.r4_reach.Needs.{Ask, demand_of}
+use Rattle.r4_extent_reaching.specs.r4_touching.r4_reach.Demand.{Demand}
+use Rattle.r4_extent_asks.specs.r4_search.Keeping.{keeping_state}
 use Rattle.r4_extent_reach.proofs.Planned.{are_read, is_touched, planned_of}
 use Rattle.r4_extent_reach.proofs.reaching.reach_of_met.Goals as goal
 

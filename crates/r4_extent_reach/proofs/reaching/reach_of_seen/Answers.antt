@@ -3,10 +3,10 @@ use Rattle.std.specs.Prelude.{MatchBool}
 use Rattle.std.specs.List.{flat_map}
 use Rattle.r4_content.specs.Held.{pairs_of, part_pairs}
 use Rattle.r4_content.specs.declared.seen.SeenPart.{SeenPart}
-use Rattle.r4_touching.proofs.r4_gather.Staying.{stays_same}
-use Rattle.r4_touching.specs.r4_gather.Finding.{asked_keys}
+use Rattle.r4_extent_reaching.proofs.r4_touching.r4_gather.Staying.{stays_same}
+use Rattle.r4_extent_reaching.specs.r4_touching.r4_gather.Finding.{asked_keys}
 use Rattle.r4_extent_reaching.specs.r4_reaching.Answers.{HaveObjectNumbers, SeesLowObject}
-use Rattle.r4_search.specs.Keeping.{keeping_state}
+use Rattle.r4_extent_asks.specs.r4_search.Keeping.{keeping_state}
 use Rattle.r4_extent_reach.proofs.Going.{on_stays}
 use Rattle.r4_extent_reach.proofs.Numbers.{good_numbers, low_object}
 use Rattle.r4_extent_reach.proofs.Planned.{has_edits, low_stops}

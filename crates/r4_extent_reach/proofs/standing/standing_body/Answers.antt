@@ -1,7 +1,7 @@
 use Rattle.std.proofs.Common.{subst, sym}
 use Rattle.std.specs.Option.{option_copied}
-use Rattle.r4_search.proofs.Walks.{handed}
-use Rattle.r4_touching.specs.Touching.{StopsFor, Touches}
+use Rattle.r4_extent_asks.proofs.r4_search.Walks.{handed}
+use Rattle.r4_extent_reaching.specs.r4_touching.Touching.{StopsFor, Touches}
 use Rattle.r4_extent_reach.specs.Standing.{shown_keys}
 use Rattle.r4_extent_reach.proofs.standing.standing_body.Goals as goal
 

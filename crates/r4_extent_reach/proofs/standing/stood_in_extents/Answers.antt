@@ -1,7 +1,7 @@
 use Rattle.std.proofs.Common.{ℕ, ◌+◌, subst}
 use Rattle.std.specs.Prelude.{IfErr}
 use Rattle.r4_content.specs.Edited.{is_between}
-use Rattle.r4_touching.specs.Touching.{StopsFor}
+use Rattle.r4_extent_reaching.specs.r4_touching.Touching.{StopsFor}
 use Rattle.r4_extent_reach.proofs.standing.stood_in_extents.Goals as goal
 
 pub returns-clause-err : goal.returns-clause-err

@@ -2,7 +2,7 @@ use Rattle.std.proofs.Common.{◌+◌, ◌∙◌, List, [], ◌∷◌, length, n
 use Rattle.r4_base.specs.Key.{rank}
 use Rattle.r4_content.specs.Edited.{is_between, is_in}
 use Rattle.r4_content.specs.declared.seen.SeenPart.{SeenPart}
-use Rattle.r4_search.proofs.Walks.{goes_same, handed}
+use Rattle.r4_reaching.proofs.r4_search.Walks.{goes_same, handed}
 use Rattle.r4_reaching.specs.r4_touching.Touching.{AreHeld, StopsFor}
 use Rattle.r4_reaching.proofs.r4_touching.Touched.{stops_one, stops_wider, touches_both, touches_wider}
 use Rattle.r4_extent_touching.proofs.Held.{touches_looked}

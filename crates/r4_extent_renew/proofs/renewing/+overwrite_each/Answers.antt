@@ -1,10 +1,10 @@
 use Rattle.std.proofs.Common.{◌∷◌, length, map, refl, sym, ap, subst, ◌∙◌, arith}
 use Rattle.std.specs.Prelude.{Contains}
 use Rattle.std.specs.Arc.{arc_value}
-use Rattle.r4_cell.specs.Seen.{CellSeen}
+use Rattle.r4_twig_work.specs.r4_cell.Seen.{CellSeen}
 use Rattle.r4_content.specs.Held.{edits_of}
 use Rattle.r4_extent_blocks.specs.Setting.{IsOverwritten}
-use Rattle.r4_patch.proofs.Members.{here, later}
+use Rattle.r4_twig_work.proofs.r4_patch.Members.{here, later}
 use Rattle.r4_extent_renew.specs.Overwriting.{AreOverwritten}
 use Rattle.r4_extent_renew.proofs.Overwritten.{more_behind}
 use Rattle.r4_extent_renew.proofs.renewing.+overwrite_each.Goals as goal

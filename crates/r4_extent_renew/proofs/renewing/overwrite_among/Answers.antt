@@ -1,7 +1,7 @@
 use Rattle.std.proofs.Common.{◌≡◌, ◌++◌, List, map, refl, ap, subst, ◌∙◌}
 use Rattle.std.proofs.lemmas.Result.{on_ok_weaker}
 use Rattle.std.specs.Arc.{arc_value}
-use Rattle.r4_cell.specs.Seen.{CellSeen}
+use Rattle.r4_twig_work.specs.r4_cell.Seen.{CellSeen}
 use Rattle.r4_content.specs.Held.{edits_of}
 use Rattle.r4_extent_renew.specs.Overwriting.{AreOverwritten, bytes_set}
 use Rattle.r4_extent_renew.proofs.Overwritten.{renewed_as}

@@ -1,7 +1,7 @@
 use Rattle.std.proofs.Common.{inl, ◌++◌, [], ◌∷◌, map, refl, sym, ap, ◌∙◌}
 use Rattle.std.proofs.lemmas.List.{append-nil}
 use Rattle.std.specs.Arc.{arc_value}
-use Rattle.r4_cell.specs.Seen.{CellSeen}
+use Rattle.r4_twig_work.specs.r4_cell.Seen.{CellSeen}
 use Rattle.r4_extent_renew.proofs.Overwritten.{more_behind}
 use Rattle.r4_extent_renew.proofs.renewing.pick.Goals as goal
 

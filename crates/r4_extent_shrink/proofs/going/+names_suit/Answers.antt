@@ -2,9 +2,9 @@ use Rattle.std.proofs.Common.{List, map, sym, ap, ◌∙◌}
 use Rattle.std.specs.Arc.{arc_value}
 use Rattle.std.specs.List.{list_all}
 use Rattle.r4_base.specs.Key.{rank}
-use Rattle.r4_measure.specs.r4_branch.Pieces.{names_of, part_names}
-use Rattle.r4_measure.specs.r4_branch.declared.piece.TwigPiece.{TwigPiece}
-use Rattle.r4_measure.specs.r4_cell.Seen.{CellSeen}
+use Rattle.r4_extent_growth.specs.r4_measure.r4_branch.Pieces.{names_of, part_names}
+use Rattle.r4_extent_growth.specs.r4_measure.r4_branch.declared.piece.TwigPiece.{TwigPiece}
+use Rattle.r4_extent_growth.specs.r4_measure.r4_cell.Seen.{CellSeen}
 use Rattle.r4_extent_growth.proofs.Tests.{and_off, and_on}
 use Rattle.r4_extent_shrink.specs.Going.{name_suits}
 use Rattle.r4_extent_shrink.proofs.Names.{first_named, none_named}

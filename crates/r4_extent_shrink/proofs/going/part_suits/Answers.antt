@@ -4,11 +4,11 @@ use Rattle.std.specs.Arc.{arc_value}
 use Rattle.std.specs.List.{list_all}
 use Rattle.r4_base.specs.Key.{rank}
 use Rattle.r4_extent_growth.specs.Turning.{ends_by}
-use Rattle.r4_measure.specs.r4_branch.Pieces.{part_names}
-use Rattle.r4_measure.specs.r4_branch.declared.piece.TwigPart.{TwigPart}
-use Rattle.r4_measure.specs.r4_branch.declared.piece.TwigPart.TheVariants.{Blocks}
-use Rattle.r4_measure.specs.r4_branch.declared.piece.TwigPiece.{TwigPiece}
-use Rattle.r4_measure.specs.r4_cell.Seen.{CellSeen}
+use Rattle.r4_extent_growth.specs.r4_measure.r4_branch.Pieces.{part_names}
+use Rattle.r4_extent_growth.specs.r4_measure.r4_branch.declared.piece.TwigPart.{TwigPart}
+use Rattle.r4_extent_growth.specs.r4_measure.r4_branch.declared.piece.TwigPart.TheVariants.{Blocks}
+use Rattle.r4_extent_growth.specs.r4_measure.r4_branch.declared.piece.TwigPiece.{TwigPiece}
+use Rattle.r4_extent_growth.specs.r4_measure.r4_cell.Seen.{CellSeen}
 use Rattle.r4_extent_shrink.specs.Going.{name_suits}
 use Rattle.r4_extent_shrink.proofs.Names.{unit_apart}
 use Rattle.r4_extent_shrink.proofs.going.part_suits.Goals as goal

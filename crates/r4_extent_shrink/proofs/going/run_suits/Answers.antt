@@ -4,8 +4,8 @@ use Rattle.std.specs.Arc.{arc_value}
 use Rattle.std.specs.List.{list_all}
 use Rattle.r4_base.specs.Cell.{run_names}
 use Rattle.r4_base.specs.Key.{rank}
-use Rattle.r4_graft.proofs.Halves.{later_rank}
-use Rattle.r4_measure.specs.r4_cell.Seen.{CellSeen}
+use Rattle.r4_extent_growth.proofs.r4_graft.Halves.{later_rank}
+use Rattle.r4_extent_growth.specs.r4_measure.r4_cell.Seen.{CellSeen}
 use Rattle.r4_extent_shrink.specs.Going.{block_suits, name_suits}
 use Rattle.r4_extent_shrink.proofs.Names.{run_next}
 use Rattle.r4_extent_shrink.proofs.going.run_suits.Goals as goal

@@ -2,8 +2,8 @@ use Rattle.std.proofs.Common.{◌≡◌, ◌^◌, false, true, Bool, ap, sym, �
 use Rattle.std.specs.Prelude.{nat_lt, not}
 use Rattle.std.proofs.lemmas.Bool.{ltb-true}
 use Rattle.r4_content.specs.Held.{edits_of}
-use Rattle.r4_extent_build.specs.Growing.{end_after, end_before}
-use Rattle.r4_extent_demands.specs.Pieces.{gets_among}
+use Rattle.r4_extent_growth.specs.r4_extent_build.Growing.{end_after, end_before}
+use Rattle.r4_extent_growth.specs.r4_extent_demands.Pieces.{gets_among}
 use Rattle.r4_extent_shrink.proofs.Losing.{going_is, losing}
 use Rattle.r4_extent_shrink.proofs.shrinking.does_lose.Goals as goal
 

@@ -4,8 +4,8 @@ use Rattle.std.proofs.lemmas.List.Elements.{filter-append}
 use Rattle.std.proofs.lemmas.List.Folds.{list_all-append}
 use Rattle.std.specs.Arc.{arc_value}
 use Rattle.std.specs.List.{list_all}
-use Rattle.r4_measure.proofs.r4_patch.Members.{cases}
-use Rattle.r4_measure.specs.r4_cell.Seen.{CellSeen}
+use Rattle.r4_extent_growth.proofs.r4_measure.r4_patch.Members.{cases}
+use Rattle.r4_extent_growth.specs.r4_measure.r4_cell.Seen.{CellSeen}
 use Rattle.r4_extent_growth.specs.r4_extent_change.Among.{is_losing, losing_twigs}
 use Rattle.r4_extent_growth.proofs.AllTurn.{rest_is}
 use Rattle.r4_extent_shrink.specs.Going.{IsKnown, may_leave}

@@ -2,7 +2,7 @@ use Rattle.std.proofs.Common.{◌≡◌, drop, map}
 use Rattle.std.specs.Arc.{arc_value}
 use Rattle.std.specs.List.{list_all}
 use Rattle.std.specs.Prelude.{Contains}
-use Rattle.r4_measure.specs.r4_cell.Seen.{CellSeen}
+use Rattle.r4_extent_growth.specs.r4_measure.r4_cell.Seen.{CellSeen}
 use Rattle.r4_extent_growth.specs.r4_extent_change.Among.{losing_twigs}
 use Rattle.r4_extent_shrink.specs.Going.{IsKnown, may_leave}
 use Rattle.r4_extent_shrink.proofs.shrinking.may_leave_all.Given as goal

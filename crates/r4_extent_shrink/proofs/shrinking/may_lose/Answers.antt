@@ -5,8 +5,8 @@ use Rattle.std.specs.List.{list_all}
 use Rattle.std.proofs.lemmas.Bool.{and_parts}
 use Rattle.r4_content.specs.Edited.{Edits}
 use Rattle.r4_content.specs.Held.{edits_of}
-use Rattle.r4_leaf_edits.specs.Suiting.{SuitLeaves}
-use Rattle.r4_measure.specs.r4_cell.Seen.{CellSeen}
+use Rattle.r4_extent_growth.specs.r4_leaf_edits.Suiting.{SuitLeaves}
+use Rattle.r4_extent_growth.specs.r4_measure.r4_cell.Seen.{CellSeen}
 use Rattle.r4_extent_growth.proofs.r4_extent_change.NoBytes.{suit_leaves}
 use Rattle.r4_extent_growth.specs.r4_extent_change.Among.{losing_twigs}
 use Rattle.r4_extent_growth.specs.r4_extent_change.Beside.{without_bytes}

@@ -1,6 +1,6 @@
 use Rattle.std.proofs.Common.{◌≡◌, ◌⊎◌, ◌∙◌, ◌<◌, ◌+◌, ℕ, ap, inl, inr, length, subst, sym, arith}
 use Rattle.r4_base.specs.Key.{rank}
-use Rattle.r4_search.proofs.Walks.{goes_both, handed, leaves_both}
+use Rattle.r4_marking.proofs.r4_search.Walks.{goes_both, handed, leaves_both}
 use Rattle.r4_extent_touching.proofs.Left.{all_left, left_both, left_still, left_stops}
 use Rattle.r4_extent_touching.proofs.beside.touch_left.Goals as goal
 use Rattle.r4_extent_touching.specs.Holding.{AreLeftMetAt, StopsLeft}

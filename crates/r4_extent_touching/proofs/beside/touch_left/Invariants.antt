@@ -1,6 +1,6 @@
 use Rattle.std.proofs.Common.{ℕ, ◌<◌}
 use Rattle.r4_base.specs.Key.{rank}
-use Rattle.r4_search.specs.Pool.{Goes, LeavesDevice}
+use Rattle.r4_marking.specs.r4_search.Pool.{Goes, LeavesDevice}
 use Rattle.r4_extent_touching.proofs.beside.touch_left.Given as goal
 use Rattle.r4_extent_touching.specs.Holding.{AreLeftMetAt, MeetsLeft}
 

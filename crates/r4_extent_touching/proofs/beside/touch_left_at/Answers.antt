@@ -2,10 +2,10 @@ use Rattle.std.proofs.Common.{◌≡◌, ◌<◌, ap, length, subst, sym, arith}
 use Rattle.std.proofs.lemmas.Bool.Decides.{nat_tests}
 use Rattle.r4_base.specs.Key.{rank}
 use Rattle.r4_base.specs.Node.{items_of}
-use Rattle.r4_cell.specs.Seen.{CellSeen}
-use Rattle.r4_search.proofs.Walks.{goes_same, handed}
-use Rattle.r4_search.specs.Place.{child_name}
-use Rattle.r4_search.specs.Pool.{IsNamed}
+use Rattle.r4_touching.specs.r4_cell.Seen.{CellSeen}
+use Rattle.r4_marking.proofs.r4_search.Walks.{goes_same, handed}
+use Rattle.r4_marking.specs.r4_search.Place.{child_name}
+use Rattle.r4_marking.specs.r4_search.Pool.{IsNamed}
 use Rattle.r4_extent_touching.proofs.Left.{child_named, no_left}
 use Rattle.r4_extent_touching.proofs.beside.touch_left_at.Goals as goal
 use Rattle.r4_extent_touching.specs.Holding.{StopsLeft}

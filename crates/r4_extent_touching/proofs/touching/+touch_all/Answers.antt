@@ -3,7 +3,7 @@ use Rattle.std.proofs.lemmas.Result.{IfErr-weaker, on_ok_weaker}
 use Rattle.r4_base.specs.Key.{rank}
 use Rattle.r4_content.specs.Edited.{is_between, is_in}
 use Rattle.r4_content.specs.Held.{interval_of}
-use Rattle.r4_search.proofs.Walks.{goes_same, handed}
+use Rattle.r4_marking.proofs.r4_search.Walks.{goes_same, handed}
 use Rattle.r4_touching.specs.Touching.{StopsFor}
 use Rattle.r4_touching.proofs.Touched.{first_all, rest_all, stops_wider, touches_both, touches_wider}
 use Rattle.r4_extent_touching.proofs.Held.{held_both}

@@ -1,7 +1,7 @@
 use Rattle.std.proofs.Common.{◌+◌, ◌∙◌}
 use Rattle.r4_base.specs.Key.{rank}
 use Rattle.r4_content.specs.Edited.{is_between}
-use Rattle.r4_search.proofs.Walks.{handed}
+use Rattle.r4_marking.proofs.r4_search.Walks.{handed}
 use Rattle.r4_touching.specs.Touching.{StopsFor}
 use Rattle.r4_touching.proofs.Touched.{stops_one}
 use Rattle.r4_extent_touching.proofs.Held.{stretch_held, touches_looked}

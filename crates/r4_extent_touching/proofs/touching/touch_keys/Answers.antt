@@ -2,7 +2,7 @@ use Rattle.std.proofs.Common.{◌<◌, ◌+◌, arith}
 use Rattle.std.proofs.lemmas.Bool.Decides.{nat_tests}
 use Rattle.r4_base.specs.Key.{rank}
 use Rattle.r4_content.specs.Edited.{is_between}
-use Rattle.r4_search.proofs.Walks.{handed, leaves_both}
+use Rattle.r4_marking.proofs.r4_search.Walks.{handed, leaves_both}
 use Rattle.r4_touching.specs.Touching.{StopsFor}
 use Rattle.r4_touching.proofs.Touched.{stops_wider, touches_both, touches_wider, within}
 use Rattle.r4_extent_touching.proofs.Held.{so_far_on}

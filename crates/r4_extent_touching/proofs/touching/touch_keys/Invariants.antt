@@ -1,7 +1,7 @@
 use Rattle.std.proofs.Common.{◌-◌, ◌≤◌}
 use Rattle.r4_base.specs.Key.{least, rank}
 use Rattle.r4_content.specs.Edited.{is_between}
-use Rattle.r4_search.specs.Pool.{LeavesDevice}
+use Rattle.r4_marking.specs.r4_search.Pool.{LeavesDevice}
 use Rattle.r4_touching.specs.Touching.{Touches}
 use Rattle.r4_extent_touching.proofs.Held.{AreSoFar}
 use Rattle.r4_extent_touching.proofs.touching.touch_keys.Given as goal

@@ -4,12 +4,12 @@ use Rattle.std.specs.Arc.{arc_value}
 use Rattle.std.specs.Option.{option_map}
 use Rattle.r4_base.specs.Key.{rank}
 use Rattle.r4_base.specs.Value.{Value}
-use Rattle.r4_cell.specs.Seen.{CellSeen, node_of}
-use Rattle.r4_cell.specs.declared.change.Fresh.{Fresh}
-use Rattle.r4_edit.specs.Extents.{given_cells}
-use Rattle.r4_edit.specs.LeafParts.{HasRight}
-use Rattle.r4_extent_edit.specs.Turning.{last_leaf}
-use Rattle.r4_extent_edit.proofs.TurnEnds.{ends_at, first_is, last_is}
+use Rattle.r4_extent_build.specs.r4_cell.Seen.{CellSeen, node_of}
+use Rattle.r4_extent_build.specs.r4_cell.declared.change.Fresh.{Fresh}
+use Rattle.r4_extent_build.specs.r4_edit.Extents.{given_cells}
+use Rattle.r4_extent_build.specs.r4_edit.LeafParts.{HasRight}
+use Rattle.r4_extent_build.specs.r4_extent_edit.Turning.{last_leaf}
+use Rattle.r4_extent_build.proofs.r4_extent_edit.TurnEnds.{ends_at, first_is, last_is}
 use Rattle.r4_extent_turn.specs.Keeping.{HasLeftUnder}
 use Rattle.r4_extent_turn.proofs.keeping.ends_kept.Goals as goal
 

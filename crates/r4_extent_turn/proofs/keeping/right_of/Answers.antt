@@ -1,8 +1,8 @@
 use Rattle.std.proofs.Common.{◌≡◌, ap, sym, ◌∙◌, arith}
 use Rattle.std.proofs.lemmas.Bool.{eqb-true}
 use Rattle.r4_base.specs.Key.{rank}
-use Rattle.r4_cell.specs.Seen.{node_of}
-use Rattle.r4_extent_edit.proofs.TurnEnds.{none_behind}
+use Rattle.r4_extent_build.specs.r4_cell.Seen.{node_of}
+use Rattle.r4_extent_build.proofs.r4_extent_edit.TurnEnds.{none_behind}
 use Rattle.r4_extent_turn.proofs.keeping.right_of.Goals as goal
 
 pub returns-then-is_same-clause-right : goal.returns-then-is_same-clause-right

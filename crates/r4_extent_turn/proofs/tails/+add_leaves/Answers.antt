@@ -3,9 +3,9 @@ use Rattle.std.specs.Prelude.{Contains}
 use Rattle.std.specs.Arc.{arc_value}
 use Rattle.std.proofs.lemmas.Result.{on_ok_weaker}
 use Rattle.r4_base.specs.Key.{rank}
-use Rattle.r4_cell.specs.Seen.{CellSeen, node_of}
+use Rattle.r4_extent_build.specs.r4_cell.Seen.{CellSeen, node_of}
 use Rattle.r4_content.specs.Seen.{pairs_in}
-use Rattle.r4_patch.proofs.Members.{here, later}
+use Rattle.r4_build.proofs.r4_patch.Members.{here, later}
 use Rattle.r4_extent_turn.proofs.Gathered.{adds_first}
 use Rattle.r4_extent_turn.proofs.tails.+add_leaves.Goals as goal
 

@@ -1,10 +1,10 @@
 use Rattle.std.proofs.Common.{map, ◌≡◌, ap, sym, subst, ◌∙◌}
 use Rattle.std.specs.Arc.{arc_value}
 use Rattle.r4_base.specs.Key.{rank}
-use Rattle.r4_cell.specs.Seen.{CellSeen}
-use Rattle.r4_extent_edit.proofs.TurnEnds.{first_is}
-use Rattle.r4_graft.specs.Splices.{IsBorder}
-use Rattle.r4_path.specs.TwigPieces.{twig_pieces}
+use Rattle.r4_extent_build.specs.r4_cell.Seen.{CellSeen}
+use Rattle.r4_extent_build.proofs.r4_extent_edit.TurnEnds.{first_is}
+use Rattle.r4_extent_build.specs.r4_graft.Splices.{IsBorder}
+use Rattle.r4_build.specs.r4_path.TwigPieces.{twig_pieces}
 use Rattle.r4_extent_turn.specs.TurningIn.{turn_of}
 use Rattle.r4_extent_turn.proofs.GivenLeaves.{leaf_border, leaves_given, twig_given}
 use Rattle.r4_extent_turn.proofs.turning.pieces_with.Goals as goal

@@ -1,10 +1,10 @@
 use Rattle.std.proofs.Common.{◌≡◌, ◌-◌, length, take, drop, ap, subst, ◌∙◌, arith}
 use Rattle.std.proofs.lemmas.Result.{IfOk-weaker}
 use Rattle.r4_content.specs.Held.{edits_of}
-use Rattle.r4_graft.specs.Splices.{place}
-use Rattle.r4_graft.proofs.Placed.{place_within}
-use Rattle.r4_path.specs.TwigPieces.{ArePiecesOf, twig_pieces}
-use Rattle.r4_reach.specs.Touched.{first_byte}
+use Rattle.r4_extent_build.specs.r4_graft.Splices.{place}
+use Rattle.r4_extent_build.proofs.r4_graft.Placed.{place_within}
+use Rattle.r4_build.specs.r4_path.TwigPieces.{ArePiecesOf, twig_pieces}
+use Rattle.r4_build.specs.r4_reach.Touched.{first_byte}
 use Rattle.r4_extent_turn.proofs.ToldRuns.{told_are}
 use Rattle.r4_extent_turn.proofs.turning.told_extent.Goals as goal
 

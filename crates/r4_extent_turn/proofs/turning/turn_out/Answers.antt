@@ -1,9 +1,9 @@
 use Rattle.std.proofs.Common.{map, ◌≡◌, ◌+◌, refl, ap, sym, ◌∙◌}
 use Rattle.std.specs.Arc.{arc_value}
 use Rattle.r4_base.specs.Key.{rank}
-use Rattle.r4_cell.specs.Seen.{CellSeen}
+use Rattle.r4_extent_build.specs.r4_cell.Seen.{CellSeen}
 use Rattle.r4_content.specs.Held.{edits_of}
-use Rattle.r4_twig_work.specs.Regrafting.{beside_of}
+use Rattle.r4_extent_build.specs.r4_twig_work.Regrafting.{beside_of}
 use Rattle.r4_extent_turn.specs.Turning.{blocks_turned}
 use Rattle.r4_extent_turn.specs.TurningIn.{turn_of}
 use Rattle.r4_extent_turn.proofs.GivenLeaves.{twig_given}

@@ -1,10 +1,10 @@
 use Rattle.std.proofs.Common.{◌≡◌, ap, refl, sym, ◌∙◌}
 use Rattle.std.specs.Prelude.{nat_lt, ◌&&◌}
 use Rattle.r4_base.specs.Key.{rank}
-use Rattle.r4_cell.specs.Seen.{node_of}
-use Rattle.r4_leaf_edits.proofs.Touched.{or_false, or_true}
-use Rattle.r4_marking.proofs.r4_path.Rising.{hi_is, lo_is}
-use Rattle.r4_marking.specs.r4_reach.Touched.{coming}
+use Rattle.r4_extent_demands.specs.r4_cell.Seen.{node_of}
+use Rattle.r4_extent_demands.proofs.r4_leaf_edits.Touched.{or_false, or_true}
+use Rattle.r4_extent_demands.proofs.r4_marking.r4_path.Rising.{hi_is, lo_is}
+use Rattle.r4_extent_demands.specs.r4_marking.r4_reach.Touched.{coming}
 use Rattle.r4_twig_asks.proofs.asking.moves_by.Goals as goal
 
 pub returns-then-is_within : goal.returns-then-is_within

@@ -4,11 +4,11 @@ use Rattle.std.specs.Prelude.{Bool, nat_lt, ◌&&◌, ◌||◌, ◌==◌}
 use Rattle.std.proofs.lemmas.Bool.{or_parts}
 use Rattle.r4_base.specs.Key.{rank}
 use Rattle.r4_base.specs.Node.{items_of}
-use Rattle.r4_branch.specs.Pieces.{twig_bytes}
-use Rattle.r4_cell.specs.Seen.{node_of}
+use Rattle.r4_extent_demands.specs.r4_branch.Pieces.{twig_bytes}
+use Rattle.r4_extent_demands.specs.r4_cell.Seen.{node_of}
 use Rattle.r4_content.specs.Held.{edits_of}
-use Rattle.r4_marking.specs.Marks.{heard_seen}
-use Rattle.r4_marking.specs.r4_reach.Needs.{come_of, meets, pieces_after, put_among}
+use Rattle.r4_extent_demands.specs.r4_marking.Marks.{heard_seen}
+use Rattle.r4_extent_demands.specs.r4_marking.r4_reach.Needs.{come_of, meets, pieces_after, put_among}
 use Rattle.r4_extent_demands.specs.Changing.{changes_units}
 use Rattle.r4_twig_asks.proofs.Asks.{asks_are, few_below, low_suit, need_items, need_pieces, some_few}
 use Rattle.r4_twig_asks.proofs.asking.twig_asks.Goals as goal

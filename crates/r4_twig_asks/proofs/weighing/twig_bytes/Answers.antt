@@ -2,10 +2,10 @@ use Rattle.std.proofs.Common.{[], ap, arith, get_or, refl, sym, take, ◌∙◌,
 use Rattle.std.specs.Prelude.{None}
 use Rattle.std.proofs.lemmas.List.{take_more}
 use Rattle.r4_base.specs.Key.{rank}
-use Rattle.r4_branch.specs.Pieces.{bytes_behind, last_end, part_bytes, twig_bytes}
-use Rattle.r4_branch.specs.declared.piece.TwigPart.TheVariants.{Pointer}
-use Rattle.r4_branch.specs.declared.piece.TwigPiece.{TwigPiece}
-use Rattle.r4_branch.proofs.Following.{bytes_more, last_more}
+use Rattle.r4_extent_demands.specs.r4_branch.Pieces.{bytes_behind, last_end, part_bytes, twig_bytes}
+use Rattle.r4_extent_demands.specs.r4_branch.declared.piece.TwigPart.TheVariants.{Pointer}
+use Rattle.r4_extent_demands.specs.r4_branch.declared.piece.TwigPiece.{TwigPiece}
+use Rattle.r4_extent_demands.proofs.r4_branch.Following.{bytes_more, last_more}
 use Rattle.r4_twig_asks.proofs.weighing.twig_bytes.Goals as goal
 
 -- what stands for no piece

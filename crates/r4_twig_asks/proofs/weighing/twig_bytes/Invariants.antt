@@ -2,7 +2,7 @@ use Rattle.std.proofs.Common.{◌≡◌, ◌*◌, ◌≤◌}
 use Rattle.std.specs.Prelude.{None, take}
 use Rattle.std.specs.Option.{option_map}
 use Rattle.r4_base.specs.Key.{rank}
-use Rattle.r4_branch.specs.Pieces.{last_end, twig_bytes}
+use Rattle.r4_extent_demands.specs.r4_branch.Pieces.{last_end, twig_bytes}
 use Rattle.r4_twig_asks.proofs.weighing.twig_bytes.Given as goal
 
 abbrev pub invariant-loop-piece : goal.invariant-loop-piece

@@ -2,7 +2,7 @@ use Rattle.std.proofs.Common.{◌+◌, arith}
 use Rattle.r4_twig_work.specs.r4_measure.Budget.{most_from}
 use Rattle.r4_twig_turns.proofs.TurnByTurn.{all_turns, few_stand}
 use Rattle.r4_twig_turns.specs.Turning.{come_at_most}
-use Rattle.r4_work.specs.Working.{root_of, standing}
+use Rattle.r4_twig_work.specs.r4_work.Working.{root_of, standing}
 use Rattle.r4_twig_turns.proofs.laws.each_twig_has_its_turn.Goals as goal
 
 pub returns : goal.returns

@@ -1,12 +1,12 @@
 use Rattle.std.proofs.Common.{◌++◌, ◌∙◌, ap, map, subst, sym}
 use Rattle.std.specs.Arc.{arc_value}
 use Rattle.r4_base.specs.Key.{rank}
-use Rattle.r4_cell.specs.declared.change.Change.{Change}
+use Rattle.r4_measure.specs.r4_cell.declared.change.Change.{Change}
 use Rattle.r4_twig_work.proofs.Regrafted.{regraft_below, regraft_does, regraft_made, regraft_next, regraft_path, regraft_working}
 use Rattle.r4_twig_work.proofs.regrafting.regraft.Goals as goal
 use Rattle.r4_twig_work.specs.Regrafting.{beside_of}
-use Rattle.r4_work.proofs.Ranges.{kept_by_place}
-use Rattle.r4_work.specs.Working.{IsNextEdit, IsPutInPlace, now_of, root_of}
+use Rattle.r4_measure.proofs.r4_work.Ranges.{kept_by_place}
+use Rattle.r4_measure.specs.r4_work.Working.{IsNextEdit, IsPutInPlace, now_of, root_of}
 
 pub graft_below-requires-clause-path : goal.graft_below-requires-clause-path
 graft_below-requires-clause-path c =

@@ -5,8 +5,8 @@ use Rattle.std.specs.Prelude.{None}
 use Rattle.r4_twig_work.proofs.Renewed.{renewable_as, renewed_does, renewed_made, renewed_next, renewed_working}
 use Rattle.r4_twig_work.proofs.renewing.renew.Goals as goal
 use Rattle.r4_twig_work.specs.Renewing.{renewing}
-use Rattle.r4_work.proofs.Ranges.{kept_by_place}
-use Rattle.r4_work.specs.Working.{IsPutInPlace}
+use Rattle.r4_measure.proofs.r4_work.Ranges.{kept_by_place}
+use Rattle.r4_measure.specs.r4_work.Working.{IsPutInPlace}
 
 pub put_in_place-requires : goal.put_in_place-requires
 put_in_place-requires c =

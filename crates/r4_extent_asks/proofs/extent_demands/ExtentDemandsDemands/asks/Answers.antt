@@ -3,7 +3,7 @@ use Rattle.std.specs.Option.{option_copied, option_map}
 use Rattle.std.specs.Prelude.{None, Option}
 use Rattle.std.specs.Result.{IfOk}
 use Rattle.std.proofs.lemmas.Result.{IfOk-weaker}
-use Rattle.r4_cell.specs.Seen.{node_of}
+use Rattle.r4_units.specs.r4_cell.Seen.{node_of}
 use Rattle.r4_content.specs.Held.{edits_of, interval_of}
 use Rattle.r4_twig_asks.specs.r4_marking.Marks.{ask_seen, heard_seen}
 use Rattle.r4_twig_asks.specs.r4_reach.Needs.{Ask, cell_asks}

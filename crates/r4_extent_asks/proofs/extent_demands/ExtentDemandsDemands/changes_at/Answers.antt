@@ -1,9 +1,9 @@
 use Rattle.std.proofs.Common.{◌≡◌, ◌↔◌, true, arith, map, sym, subst, ◌∙◌}
 use Rattle.std.specs.Option.{option_copied}
 use Rattle.r4_base.specs.Key.{rank}
-use Rattle.r4_cell.specs.Seen.{node_of}
+use Rattle.r4_units.specs.r4_cell.Seen.{node_of}
 use Rattle.r4_content.specs.Held.{edits_of, interval_of}
-use Rattle.r4_leaf_edits.proofs.Touched.{intervals_met}
+use Rattle.r4_twig_asks.proofs.r4_leaf_edits.Touched.{intervals_met}
 use Rattle.r4_twig_asks.specs.r4_reach.Needs.{demand_of, is_met}
 use Rattle.r4_twig_asks.specs.r4_reach.Reach.{IsWrittenAt}
 use Rattle.r4_extent_asks.specs.Demands.{DemandsSeen}

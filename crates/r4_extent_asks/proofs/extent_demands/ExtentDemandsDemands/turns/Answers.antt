@@ -1,6 +1,6 @@
 use Rattle.std.proofs.Common.{◌≡◌, [], false, map, sym, subst, ◌∙◌}
 use Rattle.std.specs.Option.{option_copied}
-use Rattle.r4_cell.specs.Seen.{node_of}
+use Rattle.r4_units.specs.r4_cell.Seen.{node_of}
 use Rattle.r4_content.specs.Held.{edits_of, interval_of}
 use Rattle.r4_twig_asks.specs.r4_reach.Needs.{twig_turns}
 use Rattle.r4_extent_asks.specs.Demands.{DemandsSeen}

@@ -1,6 +1,6 @@
 use Rattle.std.proofs.Common.{ap, ◌∙◌}
-use Rattle.r4_leaf_edits.specs.r4_reach.Reach.{is_body}
-use Rattle.r4_leaf_edits.specs.r4_reach.Touched.{Body}
+use Rattle.r4_bodies.specs.r4_leaf_edits.r4_reach.Reach.{is_body}
+use Rattle.r4_bodies.specs.r4_leaf_edits.r4_reach.Touched.{Body}
 use Rattle.r4_extent_demands.proofs.sized_body.SizedBody.first_byte.Goals as goal
 
 pub first_of-requires : goal.first_of-requires

@@ -1,6 +1,6 @@
 use Rattle.std.proofs.Common.{◌≡◌, ℕ, false, ap, sym, ◌∙◌}
 use Rattle.std.specs.Prelude.{Bool, if◌then◌else◌}
-use Rattle.r4_leaf_edits.specs.r4_reach.Touched.{Body, blocks_end, going}
+use Rattle.r4_bodies.specs.r4_leaf_edits.r4_reach.Touched.{Body, blocks_end, going}
 use Rattle.r4_extent_demands.proofs.sized_body.SizedBody.going.Goals as goal
 
 -- nothing goes where the body stood in no extents

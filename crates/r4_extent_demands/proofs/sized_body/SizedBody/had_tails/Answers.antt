@@ -2,7 +2,7 @@ use Rattle.std.proofs.Common.{◌≡◌, ◌+◌, ap, sym, ◌∙◌}
 use Rattle.std.specs.Prelude.{nat_lt, ◌&&◌}
 use Rattle.r4_base.specs.Key.{rank}
 use Rattle.r4_graft.proofs.Halves.{later_rank}
-use Rattle.r4_leaf_edits.specs.r4_reach.Touched.{Body, first_byte}
+use Rattle.r4_bodies.specs.r4_leaf_edits.r4_reach.Touched.{Body, first_byte}
 use Rattle.r4_extent_demands.proofs.sized_body.SizedBody.had_tails.Goals as goal
 
 pub returns-then-turns_out : goal.returns-then-turns_out

@@ -4,7 +4,7 @@ use Rattle.std.proofs.lemmas.Bool.{and_parts, leb-true, ltb-true}
 use Rattle.r4_base.proofs.Keys.{is_key}
 use Rattle.r4_base.specs.Key.{rank}
 use Rattle.r4_content.specs.Edited.{is_between}
-use Rattle.r4_leaf_edits.specs.r4_reach.Touched.{first_byte}
+use Rattle.r4_bodies.specs.r4_leaf_edits.r4_reach.Touched.{first_byte}
 use Rattle.r4_extent_demands.proofs.Firsts.{minor_is}
 use Rattle.r4_extent_demands.proofs.Low.{of_body}
 use Rattle.r4_extent_demands.proofs.sized_body.SizedBody.has.Goals as goal

@@ -1,0 +1,11 @@
+use Rattle.std.proofs.Common.{◌≡◌, map, take}
+use Rattle.std.specs.Arc.{arc_value}
+use Rattle.std.specs.Option.{option_copied}
+use Rattle.r4_content.specs.Held.{edits_of}
+use Rattle.r4_extent_turned.specs.r4_extent_growth.Coming.{count_of}
+use Rattle.r4_extent_put.specs.Taking.{twigs_putting}
+use Rattle.r4_extent_put.proofs.coming.twigs_putting.Given as goal
+
+abbrev pub invariant-loop-cell : goal.invariant-loop-cell
+invariant-loop-cell l = map count_of l.twigs.items
+    ≡ twigs_putting (option_copied l.fn.body) (edits_of l.fn.edits) (map (λ c. arc_value c) (take l.cell-index l.fn.cells))

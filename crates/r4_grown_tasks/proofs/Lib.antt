@@ -1,0 +1,12 @@
+mod TwigKeys
+pub mod InPlaces
+pub mod LyingBytes
+pub mod GrownTask
+-- what crates above name by way of this one
+pub use Rattle.r4_lost_tasks.proofs.r4_extent_growth
+pub use Rattle.r4_lost_tasks.proofs.r4_turned_moves
+pub use Rattle.r4_lost_tasks.proofs.r4_task_moves
+pub use Rattle.r4_lost_tasks.proofs.r4_extent_put
+pub use Rattle.r4_lost_tasks.proofs.r4_build
+pub use Rattle.r4_lost_tasks.proofs.r4_allowed
+pub use Rattle.r4_lost_tasks.proofs as r4_lost_tasks

@@ -1,0 +1,5 @@
+use Rattle.r4_grown_tasks.proofs.GrownTask.{moves}
+use Rattle.r4_grown_tasks.proofs.laws.grown_tasks_move.Goals as goal
+
+pub returns : goal.returns
+returns c = λ task p b h. moves task p b h

@@ -1,0 +1,10 @@
+pub mod Places
+pub mod GrownTask
+-- what crates above name by way of this one
+pub use Rattle.r4_lost_tasks.specs.r4_extent_growth
+pub use Rattle.r4_lost_tasks.specs.r4_turned_moves
+pub use Rattle.r4_lost_tasks.specs.r4_task_moves
+pub use Rattle.r4_lost_tasks.specs.r4_extent_put
+pub use Rattle.r4_lost_tasks.specs.r4_build
+pub use Rattle.r4_lost_tasks.specs.r4_allowed
+pub use Rattle.r4_lost_tasks.specs as r4_lost_tasks

@@ -1,0 +1,10 @@
+pub mod TwigsGo
+pub mod LostTask
+-- what crates above name by way of this one
+pub use Rattle.r4_task_moves.proofs.r4_extent_shrink
+pub use Rattle.r4_task_moves.proofs as r4_task_moves
+pub use Rattle.r4_task_moves.proofs.r4_turned_moves
+pub use Rattle.r4_task_moves.proofs.r4_extent_growth
+pub use Rattle.r4_task_moves.proofs.r4_extent_put
+pub use Rattle.r4_task_moves.proofs.r4_build
+pub use Rattle.r4_task_moves.proofs.r4_allowed

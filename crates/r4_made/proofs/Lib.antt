@@ -1,0 +1,6 @@
+mod Bodies
+mod Once
+mod Made
+mod Turned
+mod Grown
+mod Put

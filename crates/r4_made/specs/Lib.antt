@@ -1,0 +1,4 @@
+pub mod Making
+pub mod Losing
+pub mod Growing
+pub mod Putting

@@ -1,0 +1,15 @@
+mod CutFiles
+mod PutThere
+pub mod TaskBody
+pub mod BodyMoves
+pub mod OldEnd
+pub mod StoodThere
+pub mod SuitedTask
+-- what crates above name by way of this one
+pub use Rattle.r4_turned_moves.proofs.r4_extent_moves
+pub use Rattle.r4_turned_moves.proofs.r4_extent_shrink
+pub use Rattle.r4_turned_moves.proofs as r4_turned_moves
+pub use Rattle.r4_turned_moves.proofs.r4_extent_growth
+pub use Rattle.r4_turned_moves.proofs.r4_extent_put
+pub use Rattle.r4_turned_moves.proofs.r4_build
+pub use Rattle.r4_turned_moves.proofs.r4_allowed
