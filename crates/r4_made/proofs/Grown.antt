@@ -25,37 +25,40 @@ use Rattle.r4_put_tasks.specs.r4_lost_tasks.r4_extent_shrink.r4_extent_demands.S
 use Rattle.r4_put_tasks.specs.r4_lost_tasks.r4_extent_shrink.r4_extent_growth.Coming.{twigs_coming}
 use Rattle.r4_put_tasks.proofs.r4_grown_tasks.r4_extent_growth.Found.{can_grow}
 use Rattle.r4_made.specs.Growing.{MayBeGrown}
-use Rattle.r4_made.specs.Making.{IsAllowance, IsPlanned}
+use Rattle.r4_made.specs.Making.{DoesAs, IsAllowance, IsPlanned, StandFor, over}
 use Rattle.r4_made.proofs.Once.{kept}
 
-pub can_be_grown : (task : Task) (b : Body) (e : Edits) (table : List Allowance) → MayBeGrown task b e
-    → IsAllowance task (twigs_coming b e task.writes) table → (t : Store Value) (r : Root) → IsTaskIn t r task
-    → CanGrow b e (budget_of table) t r task.fresh task.writes
-can_be_grown task b e table may allowance t r is =
+pub can_be_grown : (task : Task) (cells : List CellSeen) (b : Body) (e : Edits) (table : List Allowance)
+    → MayBeGrown task cells b e → IsAllowance task cells (twigs_coming b e cells) table → (t : Store Value) (r : Root)
+    → IsTaskIn t r (over task cells) → CanGrow b e (budget_of table) t r task.fresh cells
+can_be_grown task cells b e table may allowance t r is =
     let measure = allowance.measure t r is in
-    can_grow b e (budget_of table) t r task.fresh task.writes may.may is.cells_in is.names measure.measured measure.quiet
+    can_grow b e (budget_of table) t r task.fresh cells may.may is.cells_in is.names measure.measured measure.quiet
     is.unplaced allowance.suffices
 
-pub grown_moves : (task : Task) (b : Body) (e : Edits) (d : Change) (table : List Allowance) (t : Store Value) (r : Root)
-    → IsTaskIn t r task → IsPlanned task e (Some b) → MayBeGrown task b e
-    → CanGrow b e (budget_of table) t r task.fresh task.writes
-    → ((at : CellSeen → ℕ → Bool) → AreKeysOfEach b e (turning_among b e task.writes) at
-    → HasEffect (patch_of_change d) (grown_keys b e task.writes at) (grown_values e))
-    → IsMove task (patch_of_change d)
-grown_moves task b e d table t r is planned may can effect =
-    grown.moves task (patch_of_change d) b
-    (record {
-      first = may.may.first;
-      body = sym planned.body;
-      growing = may.may.growing;
-      asks = subst (λ (f : Edits). AreExtentEdits (Some b) f) planned.edits planned.asks;
-      nodes = λ c has. is.cells_in.part.nodes c.id (node_of c) (is.cells_in.stand c
-          (kept (is_turning b (edits_for task)) task.writes c has));
-      clear = subst (λ (f : Edits). (c : CellSeen) → Contains (turning_among b f task.writes) c → IsClearFor b c)
-          planned.edits (λ c has. (can.twigs c has).clear);
-      places = subst (λ (f : Edits). HavePlaces b f task.reads task.writes) planned.edits may.places;
-      effect = subst (λ (f : Edits). (at : CellSeen → ℕ → Bool) → AreKeysOfEach b f (turning_among b f task.writes) at
-          → HasEffect (patch_of_change d) (grown_keys b f task.writes at) (grown_values f)) planned.edits effect;
-      end = end_among d.old;
-      within = λ k held. held_below d k held;
-    })
+module _ (task : Task) (cells : List CellSeen) (b : Body) (e : Edits) (d : Change) (table : List Allowance)
+    (t : Store Value) (r : Root) (is : IsTaskIn t r (over task cells)) (planned : IsPlanned task e (Some b))
+    (may : MayBeGrown task cells b e) (can : CanGrow b e (budget_of table) t r task.fresh cells)
+    (effect : (at : CellSeen → ℕ → Bool) → AreKeysOfEach b e (turning_among b e cells) at
+    → HasEffect (patch_of_change d) (grown_keys b e cells at) (grown_values e)) where
+  -- so does each change that does the same
+  pub grown_moves : StandFor task cells → (c : Change) → DoesAs d c → IsMove task (patch_of_change c)
+  grown_moves like c does =
+      grown.moves task (patch_of_change c) b cells
+      (record {
+        first = may.may.first;
+        body = sym planned.body;
+        growing = may.may.growing;
+        asks = subst (λ (f : Edits). AreExtentEdits (Some b) f) planned.edits planned.asks;
+        like = like;
+        nodes = λ x has. is.cells_in.part.nodes x.id (node_of x) (is.cells_in.stand x
+            (kept (is_turning b (edits_for task)) cells x has));
+        clear = subst (λ (f : Edits). (x : CellSeen) → Contains (turning_among b f cells) x → IsClearFor b x)
+            planned.edits (λ x has. (can.twigs x has).clear);
+        places = subst (λ (f : Edits). HavePlaces b f task.reads cells) planned.edits may.places;
+        effect = subst (λ (f : Edits). (at : CellSeen → ℕ → Bool) → AreKeysOfEach b f (turning_among b f cells) at
+            → HasEffect (patch_of_change c) (grown_keys b f cells at) (grown_values f)) planned.edits
+            (λ at keys. does (grown_keys b e cells at) (grown_values e) (effect at keys));
+        end = end_among c.old;
+        within = λ k held. held_below c k held;
+      })

@@ -29,6 +29,7 @@ use Rattle.r4_content.specs.declared.edits.Interval.{Interval}
 use Rattle.r4_put_tasks.specs.r4_lost_tasks.Going.{IsLostFor}
 use Rattle.r4_put_tasks.proofs.r4_lost_tasks.LostTask as lost
 use Rattle.r4_put_tasks.proofs.r4_lost_tasks.r4_extent_shrink.Found.{can_lose}
+use Rattle.r4_put_tasks.proofs.r4_lost_tasks.r4_task_moves.Alike.{own_stand}
 use Rattle.r4_put_tasks.proofs.r4_lost_tasks.r4_task_moves.OldEnd.{end_among, held_below}
 use Rattle.r4_put_tasks.specs.r4_lost_tasks.r4_extent_shrink.Shrinking.{twigs_losing}
 use Rattle.r4_put_tasks.specs.r4_lost_tasks.r4_extent_shrink.r4_extent_change.Losing.{CanLose, lost_keys, lost_values}
@@ -36,7 +37,7 @@ use Rattle.r4_put_tasks.specs.r4_lost_tasks.r4_extent_shrink.r4_extent_demands.S
 use Rattle.r4_put_tasks.specs.r4_lost_tasks.r4_extent_shrink.r4_extent_loss.Losing.{IsLosing}
 use Rattle.r4_put_tasks.specs.r4_lost_tasks.r4_extent_shrink.r4_extent_growth.Coming.{SufficesFor, count_of}
 use Rattle.r4_made.specs.Losing.{MayBeLost}
-use Rattle.r4_made.specs.Making.{CountsOnce, IsAllowance, IsMadeOf, IsPlanned}
+use Rattle.r4_made.specs.Making.{CountsOnce, DoesAs, IsAllowance, IsMadeIn, IsMadeOf, IsPlanned, over}
 use Rattle.r4_made.proofs.Once.{mapped}
 
 -- ---- what may still come
@@ -57,14 +58,15 @@ suffices twigs table raised once x has =
     (told_least twigs x.0 x.1 (y, at, sym (ap (λ (z : ℕ × ℕ). z.0) is))
     (λ z among same. let one = once x (count_of z) has (in_map count_of twigs z among) (sym same) in omega (arith, one)))
 
-pub task_cells : (t : Store Value) (r : Root) (task : Task) → IsTaskIn t r task
-    → AreTaskCells t (root_of_pair task.scope.root) task.fresh task.writes
-task_cells t r task is = subst (λ (q : Root). AreTaskCells t q task.fresh task.writes) (sym is.root)
+pub task_cells : (t : Store Value) (r : Root) (task : Task) (cells : List CellSeen) → IsTaskIn t r (over task cells)
+    → AreTaskCells t (root_of_pair task.scope.root) task.fresh cells
+task_cells t r task cells is = subst (λ (q : Root). AreTaskCells t q task.fresh cells) (sym is.root)
     (record { height = is.height; seen = is.seen; cells_in = is.cells_in })
 
-pub measured : (t : Store Value) (r : Root) (task : Task) (table : List Allowance) → IsTaskIn t r task
-    → IsMeasure t (root_of_pair task.scope.root) task.writes table → IsMeasure t r task.writes table
-measured t r task table is measure = subst (λ (q : Root). IsMeasure t q task.writes table) is.root measure
+pub measured : (t : Store Value) (r : Root) (task : Task) (cells : List CellSeen) (table : List Allowance)
+    → IsTaskIn t r (over task cells) → IsMeasure t (root_of_pair task.scope.root) cells table
+    → IsMeasure t r cells table
+measured t r task cells table is measure = subst (λ (q : Root). IsMeasure t q cells table) is.root measure
 
 -- ---- any change
 
@@ -80,7 +82,7 @@ module _ (task : Task) (d : Change) (after : Fresh) (numbers : OnlyTakes task.fr
 -- ---- blocks that go
 
 pub can_be_lost : (task : Task) (b : Body) (e : Edits) (table : List Allowance) → MayBeLost task b e
-    → IsAllowance task (twigs_losing b e task.writes) table → (t : Store Value) (r : Root) → IsTaskIn t r task
+    → IsAllowance task task.writes (twigs_losing b e task.writes) table → (t : Store Value) (r : Root) → IsTaskIn t r task
     → CanLose b e (budget_of table) t r task.fresh task.writes
 can_be_lost task b e table may allowance t r is =
     let measure = allowance.measure t r is in
@@ -108,3 +110,14 @@ lost_moves task b e d planned may effect =
 pub no_intervals : (rs : List Interval) → (length rs == 0) ≡ true → map interval_of rs ≡ []
 no_intervals [] is = refl
 no_intervals (r ∷ rs) is = absurd (omega (arith, eqb-true (length (r ∷ rs)) 0 is))
+
+-- ---- of the task's own cells
+
+pub made_of_own : (task : Task) (d : Change) → IsMadeIn task task.writes d → IsMadeOf task d
+made_of_own task d m = record {
+  change = m.change;
+  move = m.move (λ u root raw n place. own_stand task u root raw n place) d (λ at to effect. effect);
+  meets = m.meets;
+  old = m.old;
+  new = m.new;
+}

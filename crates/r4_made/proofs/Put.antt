@@ -24,7 +24,7 @@ use Rattle.r4_put_tasks.specs.Put.{IsPutFor}
 use Rattle.r4_put_tasks.specs.r4_extent_put.r4_extent_demands.r4_leaf_demands.Leaves.{IsInLeaves}
 
 pub can_be_put : (task : Task) (b : Option Body) (e : Edits) (table : List Allowance) → MayBePut task b e
-    → IsAllowance task (twigs_putting b e task.writes) table → (t : Store Value) (r : Root) → IsTaskIn t r task
+    → IsAllowance task task.writes (twigs_putting b e task.writes) table → (t : Store Value) (r : Root) → IsTaskIn t r task
     → CanPut b e (budget_of table) t r task.fresh task.writes
 can_be_put task b e table may allowance t r is =
     let measure = allowance.measure t r is in

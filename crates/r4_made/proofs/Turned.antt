@@ -20,45 +20,58 @@ use Rattle.r4_put_tasks.proofs.r4_turned_tasks.r4_extent_turned.FoundTurns.{can_
 use Rattle.r4_put_tasks.specs.r4_turned_tasks.r4_extent_turned.Finding.{turn_among}
 use Rattle.r4_put_tasks.specs.r4_turned_tasks.r4_extent_turned.MayTurn.{MayTurnWhole, twig_turning}
 use Rattle.r4_put_tasks.specs.r4_turned_tasks.r4_extent_turned.Whole.{CanTurn, turned_keys, turned_values}
-use Rattle.r4_put_tasks.specs.r4_turned_tasks.r4_extent_turned.r4_extent_turn.Turning.{Turn}
-use Rattle.r4_made.specs.Making.{CountsOnce, IsAllowance, IsPlanned}
+use Rattle.r4_put_tasks.specs.r4_turned_tasks.r4_extent_turned.r4_extent_turn.Turning.{Turn, leaves_of}
+use Rattle.r4_put_tasks.specs.r4_build.r4_measure.r4_cell.Seen.{CellSeen}
+use Rattle.r4_made.specs.Making.{CountsOnce, DoesAs, IsAllowance, IsPlanned, StandFor, over}
 use Rattle.r4_put_tasks.proofs.r4_build.r4_patch.Members.{cases, none}
 use Rattle.std.proofs.Common.{inl, inr}
 use Rattle.std.specs.Prelude.{Contains}
 
-pub can_be_turned : (task : Task) (b : Body) (e : Edits) (x : Turn) (table : List Allowance)
-    → MayTurnWhole b e task.fresh task.writes x → turn_among b task.writes ≡ Some x
-    → IsAllowance task (twig_turning b e x) table → (t : Store Value) (r : Root) → IsTaskIn t r task
-    → CanTurn b e (budget_of table) t r task.fresh task.writes x
-can_be_turned task b e x table may found allowance t r is =
+pub can_be_turned : (task : Task) (cells : List CellSeen) (b : Body) (e : Edits) (x : Turn) (table : List Allowance)
+    → MayTurnWhole b e task.fresh cells x → turn_among b cells ≡ Some x
+    → IsAllowance task cells (twig_turning b e x) table → (t : Store Value) (r : Root)
+    → IsTaskIn t r (over task cells) → CanTurn b e (budget_of table) t r task.fresh cells x
+can_be_turned task cells b e x table may found allowance t r is =
     let measure = allowance.measure t r is in
-    can_turn t r task.fresh task.writes is.cells_in b e x may found (budget_of table) is.names measure.measured
+    can_turn t r task.fresh cells is.cells_in b e x may found (budget_of table) is.names measure.measured
     measure.quiet is.unplaced allowance.suffices
 
-pub turned_moves : (task : Task) (b : Body) (e : Edits) (x : Turn) (d : Change) (table : List Allowance) (t : Store Value)
-    (r : Root) → IsPlanned task e (Some b) → MayTurnWhole b e task.fresh task.writes x
-    → CanTurn b e (budget_of table) t r task.fresh task.writes x
-    → HasEffect (patch_of_change d) (turned_keys b e) (turned_values b e x) → IsMove task (patch_of_change d)
-turned_moves task b e x d table t r planned may can effect =
-    turned.moves task (patch_of_change d) b x
-    (record {
-      first = may.first;
-      body = sym planned.body;
-      turning = may.turning;
-      longer = longer;
-      end_of_bytes = end_of_bytes (Some b);
-      suits = subst (λ (f : Edits). SuitLeaves (end_of_bytes (Some b)) f) planned.edits planned.asks.suit;
-      among = can.turn.leaves;
-      follow = may.beside;
-      around = may.around;
-      effect = subst (λ (f : Edits). HasEffect (patch_of_change d) (turned_keys b f) (turned_values b f x)) planned.edits
-          effect;
-      end = end_among d.old;
-      within = λ k on. held_below d k (effect.held k (ap (λ (f : Edits). turned_keys b f k) planned.edits ∙ on));
-    })
-  where
-    longer : end_before b ≤ end_after b
-    longer = let was = planned.longer b refl may.turning.turns in omega (arith, was)
+-- what stands for some cells has some of them too
+fewer : (task : Task) (cells some : List CellSeen) → ((c : CellSeen) → Contains some c → Contains cells c)
+    → StandFor task cells → StandFor task some
+fewer task cells some among like u root raw n place =
+    let h = like u root raw n place in
+    record { store = h.store; root = h.root; tree = h.tree; units = h.units; stand = λ c has. h.stand c (among c has) }
+
+module _ (task : Task) (cells : List CellSeen) (b : Body) (e : Edits) (x : Turn) (d : Change)
+    (table : List Allowance) (t : Store Value) (r : Root) (planned : IsPlanned task e (Some b))
+    (may : MayTurnWhole b e task.fresh cells x) (can : CanTurn b e (budget_of table) t r task.fresh cells x)
+    (effect : HasEffect (patch_of_change d) (turned_keys b e) (turned_values b e x)) where
+  longer : end_before b ≤ end_after b
+  longer = let was = planned.longer b refl may.turning.turns in omega (arith, was)
+
+  -- so does each change that does the same
+  pub turned_moves : StandFor task cells → (c : Change) → DoesAs d c → IsMove task (patch_of_change c)
+  turned_moves like c does =
+      turned.moves task (patch_of_change c) b x
+      (record {
+        first = may.first;
+        body = sym planned.body;
+        turning = may.turning;
+        longer = longer;
+        end_of_bytes = end_of_bytes (Some b);
+        suits = subst (λ (f : Edits). SuitLeaves (end_of_bytes (Some b)) f) planned.edits planned.asks.suit;
+        like = fewer task cells (leaves_of x) can.turn.leaves like;
+        follow = may.beside;
+        around = may.around;
+        effect = subst (λ (f : Edits). HasEffect (patch_of_change c) (turned_keys b f) (turned_values b f x))
+            planned.edits whole;
+        end = end_among c.old;
+        within = λ k on. held_below c k (whole.held k (ap (λ (f : Edits). turned_keys b f k) planned.edits ∙ on));
+      })
+    where
+      whole : HasEffect (patch_of_change c) (turned_keys b e) (turned_values b e x)
+      whole = does (turned_keys b e) (turned_values b e x) effect
 
 -- one count is once there
 pub one_once : (p : ℕ × ℕ) → CountsOnce (p ∷ [])

@@ -4,18 +4,20 @@ use Rattle.r4_put_tasks.specs.r4_allowed.Allowing.{IsMeasure}
 use Rattle.r4_put_tasks.specs.r4_allowed.Table.{budget_of}
 use Rattle.r4_put_tasks.specs.r4_allowed.declared.table.Allowance.{Allowance}
 use Rattle.r4_base.specs.Tree.{Root, Store}
-use Rattle.r4_base.specs.Value.{Value}
-use Rattle.r4_put_tasks.specs.r4_build.Built.{IsMove, IsTaskIn, edits_for}
+use Rattle.r4_base.specs.Value.{Content, Value}
+use Rattle.r4_put_tasks.specs.r4_build.Built.{IsMove, IsPlaceFor, IsTaskIn, edits_for}
 use Rattle.r4_put_tasks.specs.r4_build.declared.task.Task.{Task}
 use Rattle.r4_put_tasks.specs.r4_build.r4_measure.r4_cell.Patch.{IsChange}
 use Rattle.r4_put_tasks.specs.r4_build.r4_measure.r4_cell.Seen.{CellSeen}
 use Rattle.r4_put_tasks.specs.r4_build.r4_measure.r4_cell.declared.change.Change.{Change}
+use Rattle.r4_put_tasks.specs.r4_build.r4_patch.Effect.{HasEffect, Placed}
 use Rattle.r4_put_tasks.specs.r4_build.r4_patch.Joining.{ids_of, patch_of_change}
 use Rattle.r4_put_tasks.specs.r4_build.r4_patch.Part.{MeetsPart}
 use Rattle.r4_put_tasks.specs.r4_build.r4_reach.Touched.{Body, turns_out}
 use Rattle.r4_content.specs.Edited.{Edits}
 use Rattle.r4_put_tasks.specs.r4_lost_tasks.r4_extent_shrink.r4_extent_demands.Sizes.{AreExtentEdits}
 use Rattle.r4_put_tasks.specs.r4_lost_tasks.r4_extent_shrink.r4_extent_growth.Coming.{SufficesFor}
+use Rattle.r4_put_tasks.specs.r4_lost_tasks.r4_task_moves.Alike.{StandLike}
 use Rattle.r4_put_tasks.specs.r4_lost_tasks.r4_task_moves.Doing.{body_for}
 
 -- These are the task's edits, and the body that they change, if they change one's. Twigs may be
@@ -30,12 +32,41 @@ pub record IsPlanned (task : Task) (e : Edits) (b : Option Body) : Type 0 where
 abbrev pub MayBeBuilt : Task → Type 0
 MayBeBuilt task = (t : Store Value) × ((r : Root) × IsTaskIn t r task)
 
--- The table is what may still come in the place of the cells that the task writes, in each part of
--- a tree in which it may be built; it suffices for these twigs.
-pub record IsAllowance (task : Task) (twigs : List (ℕ × ℕ)) (table : List Allowance) : Type 0 where
-  pub measure : (t : Store Value) (r : Root) → IsTaskIn t r task
-      → IsMeasure t r task.writes table
+-- the task with these cells in the place of those that it writes
+abbrev pub over : Task → List CellSeen → Task
+over task cells = record task { writes = cells }
+
+-- Wherever the task may be done, the cells stand in a tree with the same units.
+abbrev pub StandFor : Task → List CellSeen → Type 0
+StandFor task cells = (u : Store Value) (root : Root) (raw n : Content)
+    → IsPlaceFor task u root raw n → StandLike u cells
+
+-- The table is what may still come in the place of these cells, in each part of a tree in which the
+-- task may be built over them; it suffices for these twigs.
+pub record IsAllowance (task : Task) (cells : List CellSeen) (twigs : List (ℕ × ℕ))
+    (table : List Allowance) : Type 0 where
+  pub measure : (t : Store Value) (r : Root) → IsTaskIn t r (over task cells)
+      → IsMeasure t r cells table
   pub suffices : SufficesFor (budget_of table) twigs
+
+-- What the one change does to units the other does too.
+abbrev pub DoesAs : (d c : Change) → Type 0
+DoesAs d c = (at : ℕ → Bool) (to : ℕ → Option (Placed Value))
+    → HasEffect (patch_of_change d) at to → HasEffect (patch_of_change c) at to
+
+-- Where these cells stand for those that the task writes, a change that does to units what this one
+-- does moves them as the task's command means. It is one of each part of a tree in which the task
+-- may be built over them. Its old cells are among them, and its new ones have their numbers, or the
+-- task's.
+pub record IsMadeIn (task : Task) (cells : List CellSeen) (d : Change) : Type 0 where
+  pub change : IsChange d.old d.new d.root
+  pub move : StandFor task cells → (c : Change) → DoesAs d c → IsMove task (patch_of_change c)
+  pub meets : (t : Store Value) (r : Root) → IsTaskIn t r (over task cells)
+      → MeetsPart (patch_of_change d) t r
+  pub old : (c : CellSeen) → Contains d.old c → Contains cells c
+  pub new : (c : CellSeen) → Contains d.new c
+      → Contains (ids_of d.old) c.id
+      ⊎ ((task.fresh.next ≤ c.id) × (c.id < task.fresh.end))
 
 -- The change moves units as the task's command means. It is one of each part of a tree in which the
 -- task may be built. Its old cells are cells that the task writes, and its new ones have their

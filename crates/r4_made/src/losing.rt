@@ -32,7 +32,7 @@ pub(crate) fn lost(
         return Err(Memory);
     }
     let twigs = twigs_losing(alloc, body, edits, cells)?;
-    let _table = allowance(alloc, task, twigs.as_slice())?;
+    let _table = allowance(alloc, task, cells, twigs.as_slice())?;
     let mut fresh = task.fresh;
     let change = change_of_losing(alloc, cells, body, edits, &mut fresh)?;
     Ok(change)

@@ -33,7 +33,7 @@ pub(crate) fn put(
         return Err(Memory);
     }
     let twigs = twigs_putting(alloc, body, edits, cells)?;
-    let _table = allowance(alloc, task, twigs.as_slice())?;
+    let _table = allowance(alloc, task, cells, twigs.as_slice())?;
     let mut fresh = task.fresh;
     let change = change_of_putting(alloc, cells, body, edits, &mut fresh)?;
     Ok(change)

@@ -12,7 +12,7 @@ pub use standing::look_at_twigs;
 
 // what crates above name by way of this one
 pub use r4_turned_tasks::{
-    Allowance, BodyChange, BuildFault, Built, Change, ObjectCounts, SizedBody, Task, Turning,
+    Allowance, BodyChange, BuildFault, Built, Cell, Change, ObjectCounts, SizedBody, Task, Turning,
     allowances, blocks_have_twigs, body_changed, build, bytes_have_places, change_of_growing,
     change_of_losing, change_of_putting, change_of_turning, is_allowed, leaves_put, may_grow,
     may_lose, may_put, may_turn, plan, turning_among, twig_turning, twigs_coming, twigs_losing,

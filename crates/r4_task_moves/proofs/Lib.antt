@@ -5,6 +5,7 @@ pub mod BodyMoves
 pub mod OldEnd
 pub mod StoodThere
 pub mod SuitedTask
+pub mod Alike
 -- what crates above name by way of this one
 pub use Rattle.r4_turned_moves.proofs.r4_extent_moves
 pub use Rattle.r4_turned_moves.proofs.r4_extent_shrink

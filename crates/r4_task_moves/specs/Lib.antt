@@ -1,4 +1,5 @@
 pub mod Doing
+pub mod Alike
 -- what crates above name by way of this one
 pub use Rattle.r4_turned_moves.specs.r4_extent_moves
 pub use Rattle.r4_turned_moves.specs.r4_extent_shrink

@@ -4,7 +4,6 @@ use Rattle.std.specs.Prelude.{List}
 use Rattle.r4_put_tasks.specs.r4_build.r4_measure.r4_cell.Seen.{CellSeen}
 use Rattle.r4_content.specs.Held.{edits_of}
 use Rattle.r4_put_tasks.specs.r4_grown_tasks.Places.{HavePlaces}
-use Rattle.r4_put_tasks.specs.r4_lost_tasks.r4_extent_shrink.r4_extent_growth.Growth.{MayGrow}
 use Rattle.r4_made.proofs.growing.may_be_grown.Goals as goal
 
 pub returns : goal.returns
@@ -12,9 +11,7 @@ returns c = λ ok.
     let b = c.args.body.now in
     let e = edits_of c.args.edits.now in
     record {
-      may = subst (λ (cells : List CellSeen). MayGrow b e c.args.task.now.fresh cells) c.as_slice-cells.ensures
-          (c.in_ok-may_grow.ensures.may c.if-not-branch.false);
-      places = subst (λ (cells : List CellSeen). HavePlaces b e c.args.task.now.reads cells) c.as_slice-cells.ensures
-          (subst (λ (reads : List CellSeen). HavePlaces b e reads (map (λ x. arc_value x) c.as_slice-cells.result.now))
-          c.as_slice.ensures (c.in_ok-have.ensures.have ok));
+      may = c.in_ok-may_grow.ensures.may c.if-not-branch.false;
+      places = subst (λ (reads : List CellSeen). HavePlaces b e reads (map (λ x. arc_value x) c.args.cells.now))
+          c.as_slice.ensures (c.in_ok-have.ensures.have ok);
     }

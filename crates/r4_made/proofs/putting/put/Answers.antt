@@ -39,7 +39,7 @@ change_of_putting-requires-clause-can c =
     let e = edits_of c.args.edits.now in
     let table = c.in_ok-_table._table.items in
     let may = c.in_ok-may_be_put.ensures c.if-not-branch.false in
-    let allowed = subst (λ (twigs : List (ℕ × ℕ)). IsAllowance task twigs table)
+    let allowed = subst (λ (twigs : List (ℕ × ℕ)). IsAllowance task task.writes twigs table)
     (ap (map count_of) c.as_slice.ensures.value ∙ (c.in_ok-twigs.ensures
     ∙ ap (twigs_putting b e) c.as_slice-cells.ensures)) c.in_ok-_table.ensures in (
       budget_of table,
@@ -61,7 +61,7 @@ returns c =
     let e = edits_of c.args.edits.now in
     let table = c.in_ok-_table._table.items in
     let may = c.in_ok-may_be_put.ensures c.if-not-branch.false in
-    let allowed = subst (λ (twigs : List (ℕ × ℕ)). IsAllowance task twigs table)
+    let allowed = subst (λ (twigs : List (ℕ × ℕ)). IsAllowance task task.writes twigs table)
     (ap (map count_of) c.as_slice.ensures.value ∙ (c.in_ok-twigs.ensures
     ∙ ap (twigs_putting b e) c.as_slice-cells.ensures)) c.in_ok-_table.ensures in
     let d = c.in_ok-change.change in

@@ -22,46 +22,36 @@ pub change_of_turning-requires-clause-can : goal.change_of_turning-requires-clau
 change_of_turning-requires-clause-can c =
     let (t, (r, is)) = c.requires.task in
     let task = c.args.task.now in
+    let cells = map (λ x. arc_value x) c.args.cells.now in
     let b = c.args.body.now in
     let e = edits_of c.args.edits.now in
     let x = turn_of c.args.turning.now in
     let table = c.in_ok-_table._table.items in
-    let may = subst (λ (cells : List CellSeen). MayTurnWhole b e task.fresh cells x) c.as_slice-cells.ensures
-    (c.in_ok-may_turn.ensures.may c.if-not-branch.false) in
-    let allowed = subst (λ (twigs : List (ℕ × ℕ)). IsAllowance task twigs table)
-    (ap (map count_of) c.as_slice.ensures.value ∙ c.in_ok-twigs.ensures) c.in_ok-_table.ensures in (
-      budget_of table,
-      (
-        t,
-        (
-          r,
-          subst (λ (cells : List CellSeen). CanTurn b e (budget_of table) t r task.fresh cells x)
-              (sym c.as_slice-cells.ensures) (can_be_turned task b e x table may c.requires.among allowed t r is),
-        ),
-      ),
-    )
+    let may = c.in_ok-may_turn.ensures.may c.if-not-branch.false in
+    let allowed = subst (λ (twigs : List (ℕ × ℕ)). IsAllowance task cells twigs table)
+    (ap (map count_of) c.as_slice.ensures.value ∙ c.in_ok-twigs.ensures) c.in_ok-_table.ensures in
+    (budget_of table, (t, (r, can_be_turned task cells b e x table may c.requires.among allowed t r is)))
 
 pub returns : goal.returns
 returns c =
     let (t, (r, is)) = c.requires.task in
     let task = c.args.task.now in
+    let cells = map (λ x. arc_value x) c.args.cells.now in
     let b = c.args.body.now in
     let e = edits_of c.args.edits.now in
     let x = turn_of c.args.turning.now in
     let table = c.in_ok-_table._table.items in
-    let may = subst (λ (cells : List CellSeen). MayTurnWhole b e task.fresh cells x) c.as_slice-cells.ensures
-    (c.in_ok-may_turn.ensures.may c.if-not-branch.false) in
-    let allowed = subst (λ (twigs : List (ℕ × ℕ)). IsAllowance task twigs table)
+    let may = c.in_ok-may_turn.ensures.may c.if-not-branch.false in
+    let allowed = subst (λ (twigs : List (ℕ × ℕ)). IsAllowance task cells twigs table)
     (ap (map count_of) c.as_slice.ensures.value ∙ c.in_ok-twigs.ensures) c.in_ok-_table.ensures in
     let d = c.in_ok-change.change in
     let told = c.in_ok-change.ensures in
     record {
       change = told.change;
-      move = turned_moves task b e x d table t r c.requires.planned may
-          (can_be_turned task b e x table may c.requires.among allowed t r is) told.effect;
+      move = turned_moves task cells b e x d table t r c.requires.planned may
+          (can_be_turned task cells b e x table may c.requires.among allowed t r is) told.effect;
       meets = λ t' r' is'. told.meets (budget_of table) t' r'
-          (subst (λ (cells : List CellSeen). CanTurn b e (budget_of table) t' r' task.fresh cells x)
-          (sym c.as_slice-cells.ensures) (can_be_turned task b e x table may c.requires.among allowed t' r' is'));
-      old = λ y has. subst (λ (cells : List CellSeen). Contains cells y) c.as_slice-cells.ensures (told.old y has);
+          (can_be_turned task cells b e x table may c.requires.among allowed t' r' is');
+      old = told.old;
       new = own_numbers task d c.change_of_turning.new.fresh told.numbers told.new;
     }
