@@ -12,7 +12,7 @@ ghost use Rattle.r4_work.specs.Working.{AreCellsIn, HasNoEffect, IsPutInPlace, I
 ghost use Rattle.r4_work.specs.Working.{path_of, standing, twig_path_of, ups_of};
 
 use crate::ordered::OrderedCells;
-use r4_base::{Key, Memory};
+use r4_base::{Key, Memory, NodeId};
 use r4_edit::{Cell, Cells, Change, follow};
 use std::alloc::Global;
 use std::sync::Arc;
@@ -53,6 +53,14 @@ impl WorkingSet {
         ensures { result ≡ self.change }
     {
         self.change
+    }
+
+    /// The number of the root, where it is another one than before the change (docs/volume.md, "The working set").
+    pub fn new_root(&self) -> Option<NodeId>
+        ensures { result ≡ option_map (λ x. x.id) self.now.change.root }
+    {
+        let root = self.change.root?;
+        Some(root.id)
     }
 
     /// The standing leaf that has a key.
