@@ -1,0 +1,23 @@
+-- What is found of the path of a leaf.
+use Rattle.std.proofs.Common.{◌≡◌, ◌<◌, List, ◌∷◌, refl, sym, subst}
+use Rattle.std.specs.Prelude.{Option, None, Some}
+use Rattle.std.specs.Option.{option_map, unwrap_or}
+use Rattle.r4_base.specs.Key.{rank}
+use Rattle.r4_base.specs.Tree.{Root}
+use Rattle.r4_base.specs.declared.key.Key.{Key}
+use Rattle.r4_build.specs.r4_leaf.Units.{leaf_bytes}
+use Rattle.r4_build.specs.r4_leaf.declared.remaking.Given.{Given}
+use Rattle.r4_build.specs.r4_leaf.declared.remaking.KeyRange.{KeyRange}
+use Rattle.r4_build.specs.r4_leaf_edits.Made.{AreOfLeaf}
+use Rattle.r4_build.specs.r4_measure.r4_cell.Patch.{root_of_pair}
+use Rattle.r4_build.specs.r4_measure.r4_cell.Seen.{CellSeen, node_of}
+use Rattle.r4_build.specs.r4_measure.r4_cell.declared.change.Fresh.{Fresh}
+use Rattle.r4_build.specs.r4_measure.r4_cell.declared.change.Root.{Root as RootPair}
+use Rattle.r4_build.specs.r4_measure.r4_edit.Remaking.{after_edits}
+use Rattle.r4_build.specs.r4_work.Remaking.{CanEdit, CanRemake}
+use Rattle.r4_leaf_steps.specs.Editing.{AreForRange}
+
+same_range : (c d : CellSeen) (cuts : List KeyRange) (items : List Given) → d.lo ≡ c.lo → d.hi ≡ c.hi → AreForRange (rank c.lo) (rank c.hi) cuts items → AreForRange (rank d.lo) (rank d.hi) cuts items
+same_range c d cuts items lo hi h =
+    subst (λ (k : Key). AreForRange (rank k) (rank d.hi) cuts items) (sym lo)
+    (subst (λ (k : Key). AreForRange (rank c.lo) (rank k) cuts items) (sym hi) h)
