@@ -1,2 +1,2 @@
 pub mod Edited
-mod Sufficing
+mod Looked

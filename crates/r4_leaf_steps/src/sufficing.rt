@@ -125,7 +125,9 @@ fn suffices(root: NodeId, bytes: u64, leaf: &Cell, ups: &[Arc<Cell>], fresh: &Fr
         → bytes ≡ leaf_bytes us
         → CanEdit r fresh.now us leaf.now (map (λ c. arc_value c) ups.now) }
 {
-    let more = bytes.saturating_sub(u64::from(NODE_ROOM)).div_ceil(BYTES_FOR_LEAF);
+    let more = bytes
+        .saturating_sub(u64::from(NODE_ROOM))
+        .div_ceil(BYTES_FOR_LEAF);
     if bytes > MOST_BYTES || !has_numbers(fresh, ups.len(), more) {
         return false;
     }
