@@ -1,5 +1,6 @@
 -- What is found of the path of a leaf.
-use Rattle.std.proofs.Common.{◌≡◌, ◌<◌, List, sym, subst}
+use Rattle.std.proofs.Common.{◌≡◌, ℕ, ◌-◌, ◌^◌, ◌<◌, List, sym, subst, arith}
+use Rattle.std.specs.Prelude.{min}
 use Rattle.r4_base.specs.Key.{rank}
 use Rattle.r4_base.specs.Tree.{Root}
 use Rattle.r4_base.specs.declared.key.Key.{Key}
@@ -28,3 +29,7 @@ can_remake r f cuts items leaf ups given of small edit = record {
   small = small;
   edit = edit;
 }
+
+-- bytes that were counted up to the greatest number
+pub is_whole : (n total : ℕ) → n ≡ min total (2 ^ 64 - 1) → n < 58912 → n ≡ total
+is_whole n total is few = omega (arith, is, few)

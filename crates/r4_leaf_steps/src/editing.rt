@@ -107,8 +107,10 @@ fn edit(
     let _node = leaf.node();
     let gets = edits_of_leaf(alloc, edits, None, &leaf.lo(), &leaf.hi())?;
     let items = gets.items(alloc)?;
-    if !may_edit(alloc, set, root, leaf, gets.cuts(), items.as_slice(), fresh)? {
+    let cuts = gets.cuts();
+    let given = items.as_slice();
+    if !may_edit(alloc, set, root, leaf, cuts, given, fresh)? {
         return Err(Memory);
     }
-    set.remake(alloc, &leaf.lo(), gets.cuts(), items.as_slice(), fresh)
+    set.remake(alloc, &leaf.lo(), cuts, given, fresh)
 }
