@@ -24,10 +24,12 @@ use r4_leaf_demands::{edits_of_leaf, touches_leaf};
 use std::alloc::Global;
 use std::sync::Arc;
 
-/// Makes the edits that lie in leaves among these cells, one leaf after another, in a set of cells of a tree with this
-/// root. Each leaf is looked at when its turn comes: it is edited if its units fit into it then, or if the cells that
-/// stand above it suffice for what comes beside it. The only error is want of memory: also where they do not suffice,
-/// or numbers lack. Then the set and the numbers may have changed (docs/volume.md, "Bodies in extents").
+/// Makes the edits that lie in leaves among these cells, one leaf after another, in a set of cells
+/// of a tree that had this root before the set's change. Each leaf is looked at when its turn comes:
+/// it is edited where its units fit into it then, or where the cells that stand above it suffice
+/// for what comes beside it. The only error is want of memory: also where they do not suffice, or
+/// numbers lack. Then the set and the numbers may have changed (docs/volume.md, "Bodies in
+/// extents").
 pub fn edit_each(
     alloc: Global,
     set: &mut WorkingSet,

@@ -1,6 +1,6 @@
 //! Whether what stands suffices for the edits of a leaf (docs/volume.md, "Bodies in extents").
 
-ghost use Rattle.std.specs.Prelude.{◌≡◌, ◌≢◌, ◌+◌, ◌-◌, ◌*◌, ◌^◌, ◌<◌, ◌≤◌, IfOk, List, map, min, true};
+ghost use Rattle.std.specs.Prelude.{◌≡◌, ◌+◌, ◌-◌, ◌*◌, ◌^◌, ◌<◌, ◌≤◌, IfOk, List, map, min, true};
 ghost use Rattle.std.specs.Arc.{arc_value};
 ghost use Rattle.r4_base.specs.Key.{rank};
 ghost use Rattle.r4_base.specs.Node.{items_of};
@@ -38,9 +38,9 @@ const MOST_LEAVES: u64 = 15;
 /// A root is parted below this level.
 const MOST_LEVEL: u8 = 8;
 
-/// Whether the leaf that stands where this one was may be edited so: it has the same range, and its units fit
-/// afterwards or the cells above it suffice for what comes beside it, and there are numbers for all. The only error is
-/// want of memory.
+/// Whether the leaf that stands where this one was may be edited so: it has the same range, its
+/// units fit afterwards or the cells above it suffice for what comes beside it, and there are
+/// numbers for all. The only error is want of memory (docs/volume.md, "Bodies in extents").
 pub(crate) fn may_edit(
     alloc: Global,
     set: &WorkingSet,
@@ -117,8 +117,8 @@ fn bytes_of(
     bytes_after(alloc, &leaf.node(), leaf.lo(), cuts, items)
 }
 
-// Whether a leaf may have units of so many bytes, below these cells, the lowest first: one leaf holds them, or the
-// cells suffice for those that come beside it; and there are numbers for all.
+// Whether a leaf may have units of so many bytes, below these cells, the lowest first: one leaf
+// holds them, or the cells suffice for those that come beside it; and there are numbers for all.
 fn suffices(root: NodeId, bytes: u64, leaf: &Cell, ups: &[Arc<Cell>], fresh: &Fresh) -> bool
     ensures small { result ≡ true → bytes < 58912 }
     ensures edit { result ≡ true → (r : TreeRoot) (us : List LeafUnit) → root.0 ≡ r.id
@@ -142,8 +142,8 @@ fn has_numbers(fresh: &Fresh, above: usize, more: u64) -> bool
     left.saturating_sub(1 + more.min(MOST_LEAVES)) > above as u64
 }
 
-// Whether the cells above a cell, the lowest first, suffice for so many that come beside it: one after the other, each
-// has room for pointers to them, or is parted in two, up to the root.
+// Whether the cells above a cell, the lowest first, suffice for so many that come beside it: one of
+// them has room for the pointers, and those below it are parted in two, or all are, up to the root.
 fn is_long_enough(root: NodeId, come: u64, cell: &Cell, ups: &[Arc<Cell>]) -> bool
     requires { come < 2 ^ 32 }
     ensures { result ≡ true → (r : TreeRoot) → root.0 ≡ r.id
