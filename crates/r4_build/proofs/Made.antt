@@ -156,10 +156,10 @@ module _ (t : Store Value) (r : Root) (e : Edits) (c : CellSeen) (cells : List C
 
 -- ---- a cell that has none
 
-stays_same : (f : Fresh) (w : WorkingSet) → StaysOf f f w w
+pub stays_same : (f : Fresh) (w : WorkingSet) → StaysOf f f w w
 stays_same f w cells first low was = was
 
-no_leaf : (e : Edits) (c : CellSeen) → ((c.level ≡ 1) → is_met (changed e) (rank c.lo) (rank c.hi) ≡ false) → (k : ℕ) → changed_in e c k ≡ false
+pub no_leaf : (e : Edits) (c : CellSeen) → ((c.level ≡ 1) → is_met (changed e) (rank c.lo) (rank c.hi) ≡ false) → (k : ℕ) → changed_in e c k ≡ false
 no_leaf e c none k = elim (true_or_false (changed_in e c k)) [
   | inr h ↦ h
   | inl h ↦

@@ -15,7 +15,7 @@ pub use laws::{
     keys_of_blocks_go, losses_among_cells, turned_losses_leave_leaves, turned_twigs_leave_leaves,
 };
 pub use losing::change_of_losing;
-pub use r4_build::{Cell, Change, Fresh, WorkingSet, make_each};
+pub use r4_build::{Cell, Change, Fresh, WorkingSet};
 pub use r4_extent_counts::{POINTER_ROOM, cells_coming, node_bytes};
 pub use r4_extent_loss::gone_of;
 pub use r4_extent_renew::{ItemView, Root, pointer};

@@ -14,7 +14,7 @@ pub use laws::{found_growths_can_be_made, growths_are_found};
 pub use lying::{have_room, lie_in_leaves};
 pub use r4_extent_change::{
     Cell, Change, Fresh, ItemView, Root, WorkingSet, cells_coming, change_of_growing,
-    change_of_losing, gone_of, make_each, node_bytes, pointer, without_bytes,
+    change_of_losing, gone_of, node_bytes, pointer, without_bytes,
 };
 pub use r4_twig_asks::{
     BodyChange, KeyRange, POINTER_ROOM, SizedBody, TwigPart, TwigPiece, Way, body_changed,

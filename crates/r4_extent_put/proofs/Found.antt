@@ -7,13 +7,11 @@ use Rattle.r4_base.specs.Tree.{Root, Store}
 use Rattle.r4_base.specs.Value.{Value}
 use Rattle.r4_content.specs.Edited.{Edits}
 use Rattle.r4_extent_among.specs.Among.{among_need}
-use Rattle.r4_extent_turned.proofs.r4_extent_growth.Found.{leaf_room}
 use Rattle.r4_extent_turned.proofs.r4_extent_growth.Turns.{each}
 use Rattle.r4_extent_turned.proofs.r4_extent_growth.r4_extent_change.Chosen.{picked}
 use Rattle.r4_extent_turned.proofs.r4_extent_growth.r4_extent_change.r4_extent_build.r4_extent_edit.SpanBorders.{sound_pieces}
 use Rattle.r4_extent_turned.proofs.r4_extent_growth.r4_measure.r4_patch.Members.{cases}
 use Rattle.r4_extent_turned.specs.r4_extent_growth.Coming.{SufficesFor}
-use Rattle.r4_extent_turned.specs.r4_extent_growth.Lying.{has_room, have_room}
 use Rattle.r4_extent_turned.specs.r4_extent_growth.r4_extent_change.Changing.{AreMeasured}
 use Rattle.r4_extent_turned.specs.r4_extent_growth.r4_extent_demands.r4_leaf_demands.Leaves.{IsInLeaves}
 use Rattle.r4_extent_turned.specs.r4_extent_growth.r4_measure.Budget.{AreUnplaced, Budget}
@@ -21,7 +19,6 @@ use Rattle.r4_extent_turned.specs.r4_extent_growth.r4_measure.Grafting.{IsQuietB
 use Rattle.r4_extent_turned.specs.r4_extent_growth.r4_measure.r4_cell.Patch.{HaveNames}
 use Rattle.r4_extent_turned.specs.r4_extent_growth.r4_measure.r4_cell.Seen.{CellSeen, node_of}
 use Rattle.r4_extent_turned.specs.r4_extent_growth.r4_measure.r4_cell.declared.change.Fresh.{Fresh}
-use Rattle.r4_extent_turned.specs.r4_extent_growth.r4_measure.r4_leaf.Units.{LeafUnit, leaf_bytes}
 use Rattle.r4_extent_turned.specs.r4_extent_growth.r4_measure.r4_path.TwigPieces.{twig_pieces}
 use Rattle.r4_extent_turned.specs.r4_extent_growth.r4_measure.r4_reach.Needs.{put_among}
 use Rattle.r4_extent_turned.specs.r4_extent_growth.r4_measure.r4_reach.Touched.{Body}
@@ -31,7 +28,6 @@ use Rattle.r4_extent_put.specs.Putting.{CanPut, TakesValues}
 use Rattle.r4_extent_put.specs.Taking.{IsKnown, is_spared, takes_values, twigs_beside, twigs_putting}
 use Rattle.r4_extent_put.specs.Whole.{is_putting, putting_among}
 use Rattle.r4_extent_put.proofs.Counted.{enough}
-use Rattle.r4_extent_put.proofs.PutWhole.{units_same}
 use Rattle.r4_extent_put.proofs.Spared.{free_for, value_changes}
 
 takes : (b : Option Body) (e : Edits) (c : CellSeen) → IsInLeaves b → IsKnown b e c → is_putting b e c ≡ true → takes_values b e c ≡ true → TakesValues b e c
@@ -45,14 +41,13 @@ takes b e c leaves known on h =
       room = leb-true (among_need b e c) 16000 room;
     }
 
-pub put_found : (b : Option Body) (e : Edits) (f : Fresh) (cells : List CellSeen) → IsInLeaves b → have_room e cells ≡ true → has_numbers b e f cells ≡ true
+pub put_found : (b : Option Body) (e : Edits) (f : Fresh) (cells : List CellSeen) → IsInLeaves b → has_numbers b e f cells ≡ true
     → list_all (takes_values b e) (putting_among b e cells) ≡ true → ((c : CellSeen) → Contains cells c → IsKnown b e c) → MayPutAll b e f cells
-put_found b e f cells leaves room numbers all known = record {
+put_found b e f cells leaves numbers all known = record {
   in_leaves = leaves;
   twigs = λ c at.
       let (among, on) = picked (is_putting b e) cells c at in
       takes b e c leaves (known c among) on (each (takes_values b e) (putting_among b e cells) all c at);
-  room = λ c at level met. subst (λ (us : List LeafUnit). leaf_bytes us ≤ 4068) (sym (units_same b e (node_of c) leaves)) (leaf_room e c (each (has_room e) cells room c at) level met);
   numbers = enough b e f cells numbers;
 }
 
@@ -77,7 +72,6 @@ can_put b e u t r f cells may in_part names measured quiet unplaced suffices = r
     takes = may.twigs c at;
     come = suffices (twigs_beside b e c) (told_in b e (putting_among b e cells) c at);
   };
-  room = may.room;
   unplaced = unplaced;
   numbers = may.numbers;
 }

@@ -5,7 +5,7 @@ use Rattle.r4_base.specs.Tree.{Root, Store}
 use Rattle.r4_base.specs.Value.{Value}
 use Rattle.r4_content.specs.Edited.{Edits}
 use Rattle.r4_extent_among.specs.AmongEach.{CanPutEach, HasPutEach}
-use Rattle.r4_extent_turned.specs.r4_extent_growth.r4_build.Making.{AreMadeIn, CanMake, IsOf}
+use Rattle.r4_extent_turned.specs.r4_extent_growth.r4_build.Making.{AreMadeIn, IsOf}
 use Rattle.r4_extent_turned.specs.r4_extent_growth.r4_extent_demands.Sizes.{end_of_bytes}
 use Rattle.r4_extent_turned.specs.r4_extent_growth.r4_extent_demands.r4_leaf_demands.Leaves.{IsInLeaves}
 use Rattle.r4_extent_turned.specs.r4_extent_growth.r4_leaf_edits.Suiting.{SuitLeaves}
@@ -16,13 +16,13 @@ use Rattle.r4_extent_turned.specs.r4_extent_growth.r4_measure.r4_patch.Effect.{H
 use Rattle.r4_extent_turned.specs.r4_extent_growth.r4_measure.r4_patch.Joining.{patch_of_change}
 use Rattle.r4_extent_turned.specs.r4_extent_growth.r4_measure.r4_path.Steps.{OnlyTakes}
 use Rattle.r4_extent_turned.specs.r4_extent_growth.r4_measure.r4_reach.Touched.{Body}
-use Rattle.r4_extent_turned.specs.r4_extent_growth.r4_measure.r4_work.Working.{HasNoEffect, IsStart}
+use Rattle.r4_extent_turned.specs.r4_extent_growth.r4_measure.r4_work.Working.{HasNoEffect, IsStart, IsWorking}
 use Rattle.r4_extent_turned.specs.r4_extent_growth.r4_measure.r4_work.declared.working.WorkingSet.{WorkingSet}
 use Rattle.r4_extent_turned.specs.r4_extent_growth.r4_build.Building.{set_by}
-use Rattle.r4_extent_put.specs.Putting.{CanPut, most_put}
+use Rattle.r4_extent_put.specs.Putting.{CanPut, LeavesHaveRoom, most_put}
 use Rattle.r4_extent_put.specs.Whole.{put_keys, putting_among}
-use Rattle.r4_extent_put.proofs.PutWhole.{can_leaves, can_twigs, left_ends, left_low, left_takes}
-use Rattle.r4_extent_put.proofs.PutWhole.{effect_is as effect_of, few_put as few_of, of_cells as cells_of}
+use Rattle.r4_extent_put.proofs.PutWhole.{can_twigs, left_ends, left_low, left_takes}
+use Rattle.r4_extent_put.proofs.PutWhole.{effect_is as effect_of, few_put as few_of, left_working as working_left, of_cells as cells_of}
 
 -- where bytes end that leaves get, if no body stands in extents afterwards
 pub end_is : (b : Option Body) → IsInLeaves b → end_of_bytes b ≡ 16384
@@ -53,8 +53,8 @@ module _ (b : Option Body) (e : Edits) (f : Fresh) (cells : List CellSeen) (w0 w
     left_ends b e u t r f cells can w0 done.start left w1 news all_put,
   )
 
-  pub may_make : CanMake t r e cells left w1
-  may_make = can_leaves b e u t r f cells can w0 done.start left w1 news all_put
+  pub left_working : IsWorking t r left w1
+  left_working = working_left b e u t r f cells can w0 done.start left w1 news all_put
 
   -- the numbers that all steps take
   pub takes_more : (g : Fresh) → OnlyTakes left g → OnlyTakes f g
@@ -63,7 +63,7 @@ module _ (b : Option Body) (e : Edits) (f : Fresh) (cells : List CellSeen) (w0 w
       (omega (arith, n, takes), omega (arith, takes), takes.2 ∙ z)
 
   module _ (g : Fresh) (now : WorkingSet) (made : AreMadeIn t r e cells left g w1 now) where
-    pub few_put : length now.change.new ≤ most_put b e u r cells
+    pub few_put : LeavesHaveRoom b e cells → length now.change.new ≤ most_put b e u r cells
     few_put = few_of b e u t r f cells can w0 done.start left w1 news all_put g now made
 
     pub of_cells : IsOf cells f.next g now

@@ -11,13 +11,13 @@ use Rattle.r4_extent_among.proofs.Several.{can_each, leaves_each, sets_each}
 use Rattle.r4_extent_among.specs.AmongEach.{CanPutEach, HasPutEach, LeavesAll, MayPutEach, is_put_in_each}
 use Rattle.r4_extent_turned.proofs.r4_extent_growth.r4_extent_change.AtStart.{standing_in, start_few, start_measured}
 use Rattle.r4_extent_turned.proofs.r4_extent_growth.r4_extent_change.Chosen.{picked, picked_apart}
-use Rattle.r4_extent_turned.proofs.r4_extent_growth.r4_extent_change.LeafTurns.{can_make, few_made}
+use Rattle.r4_extent_turned.proofs.r4_extent_growth.r4_extent_change.LeafTurns.{few_made}
 use Rattle.r4_extent_turned.proofs.r4_extent_growth.r4_extent_change.r4_build.Changing.{changes_all, changes_both, same_effect}
 use Rattle.r4_extent_turned.proofs.r4_extent_growth.r4_extent_change.r4_build.Made.{few_new, start_of}
 use Rattle.r4_extent_turned.proofs.r4_extent_growth.r4_extent_change.r4_extent_build.r4_extent_demands.r4_leaf_demands.Alike.{in_leaves_edits}
 use Rattle.r4_extent_turned.proofs.r4_extent_growth.r4_measure.r4_patch.Members.{distinct, have_names}
 use Rattle.r4_extent_turned.specs.r4_extent_growth.r4_build.Building.{set_by}
-use Rattle.r4_extent_turned.specs.r4_extent_growth.r4_build.Making.{AreMadeIn, CanMake, IsOf, MakeAtMost, changed_among}
+use Rattle.r4_extent_turned.specs.r4_extent_growth.r4_build.Making.{AreMadeIn, IsOf, MakeAtMost, changed_among}
 use Rattle.r4_extent_turned.specs.r4_extent_growth.r4_extent_change.Wider.{GoesOn}
 use Rattle.r4_extent_turned.specs.r4_extent_growth.r4_extent_demands.r4_leaf_demands.Leaves.{IsInLeaves}
 use Rattle.r4_extent_turned.specs.r4_extent_growth.r4_measure.Budget.{Budget}
@@ -30,9 +30,9 @@ use Rattle.r4_extent_turned.specs.r4_extent_growth.r4_measure.r4_patch.Joining.{
 use Rattle.r4_extent_turned.specs.r4_extent_growth.r4_measure.r4_reach.Needs.{is_met, put_among, units_after}
 use Rattle.r4_extent_turned.specs.r4_extent_growth.r4_measure.r4_reach.Touched.{Body}
 use Rattle.r4_extent_turned.specs.r4_extent_growth.r4_measure.r4_work.Remaking.{Changes}
-use Rattle.r4_extent_turned.specs.r4_extent_growth.r4_measure.r4_work.Working.{HasNoEffect, IsStart, standing}
+use Rattle.r4_extent_turned.specs.r4_extent_growth.r4_measure.r4_work.Working.{HasNoEffect, IsStart, IsWorking, standing}
 use Rattle.r4_extent_turned.specs.r4_extent_growth.r4_measure.r4_work.declared.working.WorkingSet.{WorkingSet}
-use Rattle.r4_extent_put.specs.Putting.{CanPut, most_put}
+use Rattle.r4_extent_put.specs.Putting.{CanPut, LeavesHaveRoom, most_put}
 use Rattle.r4_extent_put.specs.Whole.{is_putting, put_keys, putting_among}
 use Rattle.r4_extent_put.proofs.PutEach.{Taken, taken}
 
@@ -72,8 +72,8 @@ module _ (b : Option Body) (e : Edits) (u : Budget) (t : Store Value) (r : Root)
   pub can_twigs : CanPutEach b e t r twigs f w0
   can_twigs = can_each b e t r twigs f w0 u may_put
 
-  room : (c : CellSeen) → Contains cells c → c.level ≡ 1 → is_met (changed e) (rank c.lo) (rank c.hi) ≡ true → leaf_bytes (units_after None e (node_of c)) ≤ 4068
-  room c at level met = subst (λ (us : List LeafUnit). leaf_bytes us ≤ 4068) (units_same b e (node_of c) is.in_leaves) (is.room c at level met)
+  room : LeavesHaveRoom b e cells → LeavesHaveRoom None e cells
+  room has c at level met = subst (λ (us : List LeafUnit). leaf_bytes us ≤ 4068) (units_same b e (node_of c) is.in_leaves) (has c at level met)
 
   module _ (left : Fresh) (w1 : WorkingSet) (news : List CellSeen) (put : HasPutEach b e twigs f left w0 w1 news) where
     all : LeavesAll u t r f left w0 w1 news
@@ -100,15 +100,15 @@ module _ (b : Option Body) (e : Edits) (u : Budget) (t : Store Value) (r : Root)
     pub left_takes : (f.next ≤ left.next) × (left.end ≡ f.end)
     left_takes = (all.rises, took.end)
 
-    pub can_leaves : CanMake t r e cells left w1
-    can_leaves = can_make e t r left w1 all.left all.measured cells is.names goes_on room left_low left_high left_enough
+    pub left_working : IsWorking t r left w1
+    left_working = all.measured.working
 
-    few_leaves : MakeAtMost (most_put b e u r cells) t r e cells left w1
-    few_leaves =
+    few_leaves : LeavesHaveRoom b e cells → MakeAtMost (most_put b e u r cells) t r e cells left w1
+    few_leaves has =
         let a = start_few cells w0 start t r f is.cells_in u is.measured in
         let g = all.few in
         let n = took.few in
-        few_made e t r left w1 all.left all.measured cells is.names goes_on room left_low left_high left_enough (most_put b e u r cells) (omega (arith, a, g, n))
+        few_made e t r left w1 all.left all.measured cells is.names goes_on (room has) left_low left_high left_enough (most_put b e u r cells) (omega (arith, a, g, n))
 
     of_those : IsOf cells f.next left w1
     of_those = all.stays cells f.next (omega arith) (start_of cells w0 f start)
@@ -117,8 +117,8 @@ module _ (b : Option Body) (e : Edits) (u : Budget) (t : Store Value) (r : Root)
     twigs_change = subst (λ (x : Edits). Changes w0 w1 (is_put_in_each b e twigs) (set_by x)) (in_leaves_edits b e is.in_leaves) (sets_each b e t r twigs news f left w0 w1 can_twigs put)
 
     module _ (g : Fresh) (now : WorkingSet) (made : AreMadeIn t r e cells left g w1 now) where
-      pub few_put : length now.change.new ≤ most_put b e u r cells
-      few_put = few_new (most_put b e u r cells) t r g now made.working (made.few (most_put b e u r cells) few_leaves)
+      pub few_put : LeavesHaveRoom b e cells → length now.change.new ≤ most_put b e u r cells
+      few_put has = few_new (most_put b e u r cells) t r g now made.working (made.few (most_put b e u r cells) (few_leaves has))
 
       pub of_cells : IsOf cells f.next g now
       of_cells = made.stays cells f.next all.rises of_those

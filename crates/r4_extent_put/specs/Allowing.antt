@@ -3,14 +3,10 @@
 use Rattle.std.specs.Prelude.{◌≡◌, ◌+◌, ◌-◌, ◌/◌, ◌≤◌, ◌&&◌, nat_le, not, Bool, true, List}
 use Rattle.std.specs.Prelude.{Contains, Option, None, Some, length}
 use Rattle.std.specs.List.{list_all}
-use Rattle.r4_base.specs.Key.{rank}
-use Rattle.r4_content.specs.Edited.{Edits, changed}
-use Rattle.r4_extent_turned.specs.r4_extent_growth.Lying.{have_room}
+use Rattle.r4_content.specs.Edited.{Edits}
 use Rattle.r4_extent_turned.specs.r4_extent_growth.r4_extent_demands.r4_leaf_demands.Leaves.{IsInLeaves}
-use Rattle.r4_extent_turned.specs.r4_extent_growth.r4_measure.r4_cell.Seen.{CellSeen, node_of}
+use Rattle.r4_extent_turned.specs.r4_extent_growth.r4_measure.r4_cell.Seen.{CellSeen}
 use Rattle.r4_extent_turned.specs.r4_extent_growth.r4_measure.r4_cell.declared.change.Fresh.{Fresh}
-use Rattle.r4_extent_turned.specs.r4_extent_growth.r4_measure.r4_leaf.Units.{leaf_bytes}
-use Rattle.r4_extent_turned.specs.r4_extent_growth.r4_measure.r4_reach.Needs.{is_met, units_after}
 use Rattle.r4_extent_turned.specs.r4_extent_growth.r4_measure.r4_reach.Touched.{Body, is_spread}
 use Rattle.r4_extent_put.specs.Putting.{TakesValues, leaves_put, numbers_put}
 use Rattle.r4_extent_put.specs.Taking.{takes_values}
@@ -27,13 +23,12 @@ has_numbers b e f cells =
     nat_le f.next f.end && (nat_le (leaves_put b e cells) (f.end - f.next)
     && nat_le (length cells) ((f.end - f.next - leaves_put b e cells) / 128))
 
--- No body stands in extents afterwards. The leaves have room, there are numbers enough, and each
--- twig among whose extents values come takes them.
+-- No body stands in extents afterwards. There are numbers enough, and each twig among whose extents
+-- values come takes them.
 abbrev pub may_put : Option Body → Edits → Fresh → List CellSeen → Bool
 may_put b e f cells =
     is_in_leaves b
-    && (have_room e cells
-    && (has_numbers b e f cells && list_all (takes_values b e) (putting_among b e cells)))
+    && (has_numbers b e f cells && list_all (takes_values b e) (putting_among b e cells))
 
 -- The same, in the words of `CanPut`: all that it asks, but for what is known of the part of a tree
 -- in which the cells stand, and of the budget.
@@ -41,7 +36,4 @@ pub record MayPutAll (b : Option Body) (e : Edits) (f : Fresh) (cells : List Cel
     : Type 0 where
   pub in_leaves : IsInLeaves b
   pub twigs : (c : CellSeen) → Contains (putting_among b e cells) c → TakesValues b e c
-  pub room : (c : CellSeen) → Contains cells c → c.level ≡ 1
-      → is_met (changed e) (rank c.lo) (rank c.hi) ≡ true
-      → leaf_bytes (units_after b e (node_of c)) ≤ 4068
   pub numbers : f.next + numbers_put b e cells ≤ f.end

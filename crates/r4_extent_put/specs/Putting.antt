@@ -37,9 +37,9 @@ pub record MayTake (b : Option Body) (e : Edits) (u : Budget) (c : CellSeen) : T
 abbrev pub numbers_put : Option Body → Edits → List CellSeen → ℕ
 numbers_put b e cells = sum_by (numbers_among b e) (putting_among b e cells) + 64 * length cells
 
--- No body stands in extents afterwards. The cells are a part's and measured, and nothing comes
--- beside leaves. Each twig among whose extents values come may take them. Each leaf that changes
--- has room for what it is to have. There are numbers enough.
+-- No body stands in extents afterwards. The cells are a part's and measured, and the budget has
+-- nothing for leaves. Each twig among whose extents values come may take them. There are numbers
+-- for what these take.
 pub record CanPut (b : Option Body) (e : Edits) (u : Budget) (t : Store Value) (r : Root)
     (f : Fresh) (cells : List CellSeen) : Type 0 where
   pub in_leaves : IsInLeaves b
@@ -48,11 +48,14 @@ pub record CanPut (b : Option Body) (e : Edits) (u : Budget) (t : Store Value) (
   pub measured : AreMeasured t r u cells
   pub quiet : IsQuietBelow u
   pub twigs : (c : CellSeen) → Contains (putting_among b e cells) c → MayTake b e u c
-  pub room : (c : CellSeen) → Contains cells c → c.level ≡ 1
-      → is_met (changed e) (rank c.lo) (rank c.hi) ≡ true
-      → leaf_bytes (units_after b e (node_of c)) ≤ 4068
   pub unplaced : AreUnplaced f
   pub numbers : f.next + numbers_put b e cells ≤ f.end
+
+-- Each leaf that changes has room for what it is to have.
+abbrev pub LeavesHaveRoom : Option Body → Edits → List CellSeen → Type 0
+LeavesHaveRoom b e cells = (c : CellSeen) → Contains cells c → c.level ≡ 1
+    → is_met (changed e) (rank c.lo) (rank c.hi) ≡ true
+    → leaf_bytes (units_after b e (node_of c)) ≤ 4068
 
 -- ---- how many cells come
 
@@ -61,7 +64,7 @@ abbrev pub leaves_put : Option Body → Edits → List CellSeen → ℕ
 leaves_put b e cells =
     sum_by (λ (c : CellSeen). put_among b e (node_of c)) (putting_among b e cells)
 
--- how many new cells come at most: for each cell what may come in its place, a new root, and the
--- leaves that come
+-- how many new cells come at most where leaves have room: for each cell what may come in its place,
+-- a new root, and the leaves that come
 abbrev pub most_put : Option Body → Edits → Budget → Root → List CellSeen → ℕ
 most_put b e u r cells = most_from u r cells + leaves_put b e cells

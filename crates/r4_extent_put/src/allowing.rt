@@ -20,7 +20,7 @@ use crate::finding::is_putting;
 use r4_base::{Key, Memory};
 use r4_content::Edits;
 use r4_extent_turned::{
-    Cell, Fresh, SizedBody, TwigPart, TwigPiece, have_room, pieces_of_cell, touches_leaf, unit_end,
+    Cell, Fresh, SizedBody, TwigPart, TwigPiece, pieces_of_cell, touches_leaf, unit_end,
 };
 use std::alloc::Global;
 use std::sync::Arc;
@@ -33,10 +33,10 @@ const MOST_BYTES: u64 = 16000;
 const CELL_NUMBERS: u64 = 128;
 
 /// Whether `change_of_putting` may be asked for the whole change of a command, as far as the cells
-/// of its task tell it: no body stands in extents afterwards; the leaves among the cells have room
-/// for what they get; no key changes where a twig among whose extents values come has a block or a
-/// hole, and none of these twigs needs more than 16,000 bytes; and there is a number for each leaf
-/// that comes, and 128 for each cell. What it asks for beside that is known of the part of a tree
+/// of its task tell it: no body stands in extents afterwards; no key changes where a twig among
+/// whose extents values come has a block or a hole, and none of these twigs needs more than 16,000
+/// bytes; and there is a number for each leaf that comes, and 128 for each cell. Of the leaves that
+/// change nothing is asked: each is looked at when its turn comes. What it asks for beside that is known of the part of a tree
 /// in which the cells stand, and of the budget (`found_puts_can_be_made`). The only error is want
 /// of memory, where 2^64 leaves or bytes may be needed too (docs/volume.md, "Bodies in extents").
 pub fn may_put(
@@ -53,9 +53,6 @@ pub fn may_put(
         (edits_of edits.now) fresh.now (map (λ c. arc_value c) cells.now)) }
 {
     if !is_in_leaves(body) {
-        return Ok(false);
-    }
-    if !have_room(alloc, edits, cells)? {
         return Ok(false);
     }
     if !has_numbers(alloc, body, edits, cells, fresh)? {

@@ -7,6 +7,7 @@ use Rattle.r4_base.specs.Value.{Value}
 use Rattle.r4_put_tasks.specs.r4_build.Building.{HaveLawfulKeys, set_by}
 use Rattle.r4_put_tasks.specs.r4_build.Built.{IsMove, IsTaskIn, edits_for}
 use Rattle.r4_put_tasks.specs.r4_build.declared.task.Task.{Task}
+use Rattle.r4_put_tasks.specs.r4_build.r4_measure.r4_cell.Patch.{root_of_pair}
 use Rattle.r4_put_tasks.specs.r4_build.r4_measure.r4_cell.declared.change.Change.{Change}
 use Rattle.r4_put_tasks.specs.r4_build.r4_patch.Effect.{HasEffect}
 use Rattle.r4_put_tasks.specs.r4_build.r4_patch.Joining.{patch_of_change}
@@ -25,11 +26,12 @@ use Rattle.r4_put_tasks.specs.r4_extent_put.r4_extent_demands.r4_leaf_demands.Le
 
 pub can_be_put : (task : Task) (b : Option Body) (e : Edits) (table : List Allowance) → MayBePut task b e
     → IsAllowance task task.writes (twigs_putting b e task.writes) table → (t : Store Value) (r : Root) → IsTaskIn t r task
-    → CanPut b e (budget_of table) t r task.fresh task.writes
+    → CanPut b e (budget_of table) t (root_of_pair task.scope.root) task.fresh task.writes
 can_be_put task b e table may allowance t r is =
     let measure = allowance.measure t r is in
-    can_put b e (budget_of table) t r task.fresh task.writes may.may is.cells_in is.names measure.measured measure.quiet
-    is.unplaced allowance.suffices
+    subst (λ (q : Root). CanPut b e (budget_of table) t q task.fresh task.writes) (sym is.root)
+    (can_put b e (budget_of table) t r task.fresh task.writes may.may is.cells_in is.names measure.measured measure.quiet
+    is.unplaced allowance.suffices)
 
 pub put_moves : (task : Task) (b : Option Body) (e : Edits) (d : Change) → IsPlanned task e b → MayBePut task b e
     → HasEffect (patch_of_change d) (put_keys b e task.writes) (set_by e) → IsMove task (patch_of_change d)

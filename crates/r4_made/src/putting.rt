@@ -35,7 +35,8 @@ pub(crate) fn put(
     let twigs = twigs_putting(alloc, body, edits, cells)?;
     let _table = allowance(alloc, task, cells, twigs.as_slice())?;
     let mut fresh = task.fresh;
-    let change = change_of_putting(alloc, cells, body, edits, &mut fresh)?;
+    let root = &task.scope.root;
+    let change = change_of_putting(alloc, root, cells, body, edits, &mut fresh)?;
     Ok(change)
 }
 

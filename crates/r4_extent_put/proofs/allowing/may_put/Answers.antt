@@ -10,11 +10,7 @@ use Rattle.r4_extent_put.specs.Allowing.{MayPutAll}
 use Rattle.r4_extent_put.specs.Taking.{IsKnown, takes_values}
 use Rattle.r4_extent_put.specs.Whole.{putting_among}
 use Rattle.r4_extent_put.proofs.Found.{put_found}
-use Rattle.r4_extent_put.proofs.PutSteps.{suits}
 use Rattle.r4_extent_put.proofs.allowing.may_put.Goals as goal
-
-pub have_room-requires : goal.have_room-requires
-have_room-requires c = suits (option_copied c.args.body) (edits_of c.args.edits.now) (c.is_in_leaves.ensures.leaves c.if-not-is_in_leaves.false) c.requires.suit
 
 pub returns-clause-may : goal.returns-clause-may
 returns-clause-may c =
@@ -23,10 +19,9 @@ returns-clause-may c =
     let f = c.args.fresh.now in
     let cells : List CellSeen = map (λ x. arc_value x) c.args.cells.now in
     let leaves = c.is_in_leaves.ensures.leaves c.if-not-is_in_leaves.false in
-    let room = sym c.in_ok-have_room.ensures ∙ c.if-not-branch.false in
-    let numbers = sym c.in_ok-has_numbers.ensures ∙ c.if-not-branch-2.false in
+    let numbers = sym c.in_ok-has_numbers.ensures ∙ c.if-not-branch.false in
     both_ok c.take_all.result (λ ok. ok ≡ list_all (takes_values b e) (putting_among b e cells))
     (λ ok. ok ≡ true → (x : CellSeen) → Contains cells x → IsKnown b e x)
     (λ ok. ok ≡ true → MayPutAll b e f cells)
-    (λ ok exact known yes. put_found b e f cells leaves room numbers (sym exact ∙ yes) (known yes))
+    (λ ok exact known yes. put_found b e f cells leaves numbers (sym exact ∙ yes) (known yes))
     c.take_all.ensures.exact c.take_all.ensures.known

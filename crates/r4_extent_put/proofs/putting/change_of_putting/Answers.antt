@@ -4,7 +4,7 @@ use Rattle.std.specs.Option.{option_copied}
 use Rattle.std.specs.Prelude.{◌≤◌, Contains, length}
 use Rattle.r4_content.specs.Held.{edits_of}
 use Rattle.r4_extent_turned.specs.r4_extent_growth.r4_build.Building.{AreNumbered, set_by}
-use Rattle.r4_extent_turned.specs.r4_extent_growth.r4_measure.r4_cell.Patch.{IsChange}
+use Rattle.r4_extent_turned.specs.r4_extent_growth.r4_measure.r4_cell.Patch.{IsChange, root_of_pair}
 use Rattle.r4_extent_turned.specs.r4_extent_growth.r4_measure.r4_cell.Seen.{CellSeen}
 use Rattle.r4_extent_turned.specs.r4_extent_growth.r4_measure.r4_cell.declared.change.Change.{Change}
 use Rattle.r4_extent_turned.specs.r4_extent_growth.r4_measure.r4_patch.Effect.{HasEffect}
@@ -12,7 +12,7 @@ use Rattle.r4_extent_turned.specs.r4_extent_growth.r4_measure.r4_patch.Joining.{
 use Rattle.r4_extent_turned.specs.r4_extent_growth.r4_measure.r4_patch.Part.{MeetsPart}
 use Rattle.r4_extent_put.specs.Putting.{most_put}
 use Rattle.r4_extent_put.specs.Whole.{put_keys, putting_among}
-use Rattle.r4_extent_put.proofs.PutSteps.{Put, effect_is, few_put, left_numbers, may_each, may_make, of_cells, suits, takes_more}
+use Rattle.r4_extent_put.proofs.PutSteps.{Put, effect_is, few_put, left_numbers, left_working, may_each, of_cells, suits, takes_more}
 use Rattle.r4_extent_put.proofs.putting.change_of_putting.Goals as goal
 
 pub put_among_each-requires-clause-can : goal.put_among_each-requires-clause-can
@@ -21,18 +21,20 @@ put_among_each-requires-clause-can c =
     let e = edits_of c.args.edits.now in
     let f = c.args.fresh.now in
     let cells : List CellSeen = map (λ x. arc_value x) c.args.cells.now in
-    let (u, (t, (r, can))) = c.requires.can in
+    let r = root_of_pair c.args.root.now in
+    let (u, (t, can)) = c.requires.can in
     let those : List CellSeen = map (λ x. arc_value x) c.as_slice.result.now in
     let twigs : those ≡ putting_among b e cells = ap (map (λ x. arc_value x)) c.as_slice.ensures.value ∙ c.in_ok-twigs.ensures in
     (t, (r, may_each b e f cells c.in_ok-set.set c.in_ok-set.ensures.start u t r can those twigs))
 
-pub make_each-requires-clause-can : goal.make_each-requires-clause-can
-make_each-requires-clause-can c =
+pub edit_each-requires-clause-working : goal.edit_each-requires-clause-working
+edit_each-requires-clause-working c =
     let b = option_copied c.args.body in
     let e = edits_of c.args.edits.now in
     let f = c.args.fresh.now in
     let cells : List CellSeen = map (λ x. arc_value x) c.args.cells.now in
-    let (u, (t, (r, can))) = c.requires.can in
+    let r = root_of_pair c.args.root.now in
+    let (u, (t, can)) = c.requires.can in
     let those : List CellSeen = map (λ x. arc_value x) c.as_slice.result.now in
     let twigs : those ≡ putting_among b e cells = ap (map (λ x. arc_value x)) c.as_slice.ensures.value ∙ c.in_ok-twigs.ensures in
     let left = c.put_among_each.new.fresh in
@@ -40,24 +42,26 @@ make_each-requires-clause-can c =
     let w1 = c.put_among_each.new.set in
     let news : List CellSeen = map (λ x. arc_value x) c.in_ok-put_among_each.field-0.items in
     let done : Put b e f cells w0 w1 those left news = record { start = c.in_ok-set.ensures.start; none = c.in_ok-set.ensures.effect; twigs = twigs; put = c.in_ok-put_among_each.ensures } in
-    (t, (r, may_make b e f cells w0 w1 those left news done u t r can))
+    (t, left_working b e f cells w0 w1 those left news done u t r can)
 
-pub make_each-requires-clause-suits : goal.make_each-requires-clause-suits
-make_each-requires-clause-suits c =
+pub edit_each-requires-clause-suits : goal.edit_each-requires-clause-suits
+edit_each-requires-clause-suits c =
     let b = option_copied c.args.body in
     let e = edits_of c.args.edits.now in
     let f = c.args.fresh.now in
     let cells : List CellSeen = map (λ x. arc_value x) c.args.cells.now in
-    let (u, (t, (r, can))) = c.requires.can in
+    let r = root_of_pair c.args.root.now in
+    let (u, (t, can)) = c.requires.can in
     suits b e can.in_leaves c.requires.suits.suit
 
-pub make_each-requires-clause-numbers : goal.make_each-requires-clause-numbers
-make_each-requires-clause-numbers c =
+pub edit_each-requires-clause-numbers : goal.edit_each-requires-clause-numbers
+edit_each-requires-clause-numbers c =
     let b = option_copied c.args.body in
     let e = edits_of c.args.edits.now in
     let f = c.args.fresh.now in
     let cells : List CellSeen = map (λ x. arc_value x) c.args.cells.now in
-    let (u, (t, (r, can))) = c.requires.can in
+    let r = root_of_pair c.args.root.now in
+    let (u, (t, can)) = c.requires.can in
     let those : List CellSeen = map (λ x. arc_value x) c.as_slice.result.now in
     let twigs : those ≡ putting_among b e cells = ap (map (λ x. arc_value x)) c.as_slice.ensures.value ∙ c.in_ok-twigs.ensures in
     let left = c.put_among_each.new.fresh in
@@ -73,7 +77,8 @@ returns-clause-change c =
     let e = edits_of c.args.edits.now in
     let f = c.args.fresh.now in
     let cells : List CellSeen = map (λ x. arc_value x) c.args.cells.now in
-    let (u, (t, (r, can))) = c.requires.can in
+    let r = root_of_pair c.args.root.now in
+    let (u, (t, can)) = c.requires.can in
     let those : List CellSeen = map (λ x. arc_value x) c.as_slice.result.now in
     let twigs : those ≡ putting_among b e cells = ap (map (λ x. arc_value x)) c.as_slice.ensures.value ∙ c.in_ok-twigs.ensures in
     let left = c.put_among_each.new.fresh in
@@ -81,11 +86,12 @@ returns-clause-change c =
     let w1 = c.put_among_each.new.set in
     let news : List CellSeen = map (λ x. arc_value x) c.in_ok-put_among_each.field-0.items in
     let done : Put b e f cells w0 w1 those left news = record { start = c.in_ok-set.ensures.start; none = c.in_ok-set.ensures.effect; twigs = twigs; put = c.in_ok-put_among_each.ensures } in
-    let made = c.in_ok-make_each.ensures.made t r (may_make b e f cells w0 w1 those left news done u t r can) in
+    let made = c.in_ok-edit_each.ensures.made t (left_working b e f cells w0 w1 those left news done u t r can) in
     subst (λ (d : Change). IsChange d.old d.new d.root) (sym c.into_change.ensures) made.working.change
 
 pub returns-clause-meets : goal.returns-clause-meets
-returns-clause-meets c = λ u t r can.
+returns-clause-meets c = λ u t can.
+    let r = root_of_pair c.args.root.now in
     let b = option_copied c.args.body in
     let e = edits_of c.args.edits.now in
     let f = c.args.fresh.now in
@@ -97,11 +103,12 @@ returns-clause-meets c = λ u t r can.
     let w1 = c.put_among_each.new.set in
     let news : List CellSeen = map (λ x. arc_value x) c.in_ok-put_among_each.field-0.items in
     let done : Put b e f cells w0 w1 those left news = record { start = c.in_ok-set.ensures.start; none = c.in_ok-set.ensures.effect; twigs = twigs; put = c.in_ok-put_among_each.ensures } in
-    let made = c.in_ok-make_each.ensures.made t r (may_make b e f cells w0 w1 those left news done u t r can) in
+    let made = c.in_ok-edit_each.ensures.made t (left_working b e f cells w0 w1 those left news done u t r can) in
     subst (λ (d : Change). MeetsPart (patch_of_change d) t r) (sym c.into_change.ensures) made.working.meets
 
 pub returns-clause-few : goal.returns-clause-few
-returns-clause-few c = λ u t r can.
+returns-clause-few c = λ u t can has.
+    let r = root_of_pair c.args.root.now in
     let b = option_copied c.args.body in
     let e = edits_of c.args.edits.now in
     let f = c.args.fresh.now in
@@ -113,9 +120,9 @@ returns-clause-few c = λ u t r can.
     let w1 = c.put_among_each.new.set in
     let news : List CellSeen = map (λ x. arc_value x) c.in_ok-put_among_each.field-0.items in
     let done : Put b e f cells w0 w1 those left news = record { start = c.in_ok-set.ensures.start; none = c.in_ok-set.ensures.effect; twigs = twigs; put = c.in_ok-put_among_each.ensures } in
-    let made = c.in_ok-make_each.ensures.made t r (may_make b e f cells w0 w1 those left news done u t r can) in
+    let made = c.in_ok-edit_each.ensures.made t (left_working b e f cells w0 w1 those left news done u t r can) in
     subst (λ (d : Change). length d.new ≤ most_put b e u r cells) (sym c.into_change.ensures)
-    (few_put b e f cells w0 w1 those left news done u t r can c.make_each.new.fresh c.make_each.new.set made)
+    (few_put b e f cells w0 w1 those left news done u t r can c.edit_each.new.fresh c.edit_each.new.set made has)
 
 pub returns-clause-effect : goal.returns-clause-effect
 returns-clause-effect c =
@@ -123,7 +130,8 @@ returns-clause-effect c =
     let e = edits_of c.args.edits.now in
     let f = c.args.fresh.now in
     let cells : List CellSeen = map (λ x. arc_value x) c.args.cells.now in
-    let (u, (t, (r, can))) = c.requires.can in
+    let r = root_of_pair c.args.root.now in
+    let (u, (t, can)) = c.requires.can in
     let those : List CellSeen = map (λ x. arc_value x) c.as_slice.result.now in
     let twigs : those ≡ putting_among b e cells = ap (map (λ x. arc_value x)) c.as_slice.ensures.value ∙ c.in_ok-twigs.ensures in
     let left = c.put_among_each.new.fresh in
@@ -131,9 +139,9 @@ returns-clause-effect c =
     let w1 = c.put_among_each.new.set in
     let news : List CellSeen = map (λ x. arc_value x) c.in_ok-put_among_each.field-0.items in
     let done : Put b e f cells w0 w1 those left news = record { start = c.in_ok-set.ensures.start; none = c.in_ok-set.ensures.effect; twigs = twigs; put = c.in_ok-put_among_each.ensures } in
-    let made = c.in_ok-make_each.ensures.made t r (may_make b e f cells w0 w1 those left news done u t r can) in
+    let made = c.in_ok-edit_each.ensures.made t (left_working b e f cells w0 w1 those left news done u t r can) in
     subst (λ (d : Change). HasEffect (patch_of_change d) (put_keys b e cells) (set_by e)) (sym c.into_change.ensures)
-    (effect_is b e f cells w0 w1 those left news done u t r can c.make_each.new.fresh c.make_each.new.set made)
+    (effect_is b e f cells w0 w1 those left news done u t r can c.edit_each.new.fresh c.edit_each.new.set made)
 
 pub returns-clause-old : goal.returns-clause-old
 returns-clause-old c =
@@ -141,7 +149,8 @@ returns-clause-old c =
     let e = edits_of c.args.edits.now in
     let f = c.args.fresh.now in
     let cells : List CellSeen = map (λ x. arc_value x) c.args.cells.now in
-    let (u, (t, (r, can))) = c.requires.can in
+    let r = root_of_pair c.args.root.now in
+    let (u, (t, can)) = c.requires.can in
     let those : List CellSeen = map (λ x. arc_value x) c.as_slice.result.now in
     let twigs : those ≡ putting_among b e cells = ap (map (λ x. arc_value x)) c.as_slice.ensures.value ∙ c.in_ok-twigs.ensures in
     let left = c.put_among_each.new.fresh in
@@ -149,8 +158,8 @@ returns-clause-old c =
     let w1 = c.put_among_each.new.set in
     let news : List CellSeen = map (λ x. arc_value x) c.in_ok-put_among_each.field-0.items in
     let done : Put b e f cells w0 w1 those left news = record { start = c.in_ok-set.ensures.start; none = c.in_ok-set.ensures.effect; twigs = twigs; put = c.in_ok-put_among_each.ensures } in
-    let made = c.in_ok-make_each.ensures.made t r (may_make b e f cells w0 w1 those left news done u t r can) in
-    λ z at. (of_cells b e f cells w0 w1 those left news done u t r can c.make_each.new.fresh c.make_each.new.set made).old z (subst (λ (d : Change). Contains d.old z) c.into_change.ensures at)
+    let made = c.in_ok-edit_each.ensures.made t (left_working b e f cells w0 w1 those left news done u t r can) in
+    λ z at. (of_cells b e f cells w0 w1 those left news done u t r can c.edit_each.new.fresh c.edit_each.new.set made).old z (subst (λ (d : Change). Contains d.old z) c.into_change.ensures at)
 
 pub returns-clause-new : goal.returns-clause-new
 returns-clause-new c =
@@ -158,7 +167,8 @@ returns-clause-new c =
     let e = edits_of c.args.edits.now in
     let f = c.args.fresh.now in
     let cells : List CellSeen = map (λ x. arc_value x) c.args.cells.now in
-    let (u, (t, (r, can))) = c.requires.can in
+    let r = root_of_pair c.args.root.now in
+    let (u, (t, can)) = c.requires.can in
     let those : List CellSeen = map (λ x. arc_value x) c.as_slice.result.now in
     let twigs : those ≡ putting_among b e cells = ap (map (λ x. arc_value x)) c.as_slice.ensures.value ∙ c.in_ok-twigs.ensures in
     let left = c.put_among_each.new.fresh in
@@ -166,9 +176,9 @@ returns-clause-new c =
     let w1 = c.put_among_each.new.set in
     let news : List CellSeen = map (λ x. arc_value x) c.in_ok-put_among_each.field-0.items in
     let done : Put b e f cells w0 w1 those left news = record { start = c.in_ok-set.ensures.start; none = c.in_ok-set.ensures.effect; twigs = twigs; put = c.in_ok-put_among_each.ensures } in
-    let made = c.in_ok-make_each.ensures.made t r (may_make b e f cells w0 w1 those left news done u t r can) in
-    subst (AreNumbered f c.make_each.new.fresh) (sym c.into_change.ensures)
-    (of_cells b e f cells w0 w1 those left news done u t r can c.make_each.new.fresh c.make_each.new.set made).new
+    let made = c.in_ok-edit_each.ensures.made t (left_working b e f cells w0 w1 those left news done u t r can) in
+    subst (AreNumbered f c.edit_each.new.fresh) (sym c.into_change.ensures)
+    (of_cells b e f cells w0 w1 those left news done u t r can c.edit_each.new.fresh c.edit_each.new.set made).new
 
 pub returns-clause-numbers : goal.returns-clause-numbers
 returns-clause-numbers c =
@@ -176,7 +186,8 @@ returns-clause-numbers c =
     let e = edits_of c.args.edits.now in
     let f = c.args.fresh.now in
     let cells : List CellSeen = map (λ x. arc_value x) c.args.cells.now in
-    let (u, (t, (r, can))) = c.requires.can in
+    let r = root_of_pair c.args.root.now in
+    let (u, (t, can)) = c.requires.can in
     let those : List CellSeen = map (λ x. arc_value x) c.as_slice.result.now in
     let twigs : those ≡ putting_among b e cells = ap (map (λ x. arc_value x)) c.as_slice.ensures.value ∙ c.in_ok-twigs.ensures in
     let left = c.put_among_each.new.fresh in
@@ -184,4 +195,4 @@ returns-clause-numbers c =
     let w1 = c.put_among_each.new.set in
     let news : List CellSeen = map (λ x. arc_value x) c.in_ok-put_among_each.field-0.items in
     let done : Put b e f cells w0 w1 those left news = record { start = c.in_ok-set.ensures.start; none = c.in_ok-set.ensures.effect; twigs = twigs; put = c.in_ok-put_among_each.ensures } in
-    takes_more b e f cells w0 w1 those left news done u t r can c.make_each.new.fresh c.in_ok-make_each.ensures.numbers
+    takes_more b e f cells w0 w1 those left news done u t r can c.edit_each.new.fresh c.in_ok-edit_each.ensures.numbers

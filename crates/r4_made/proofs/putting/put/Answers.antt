@@ -2,11 +2,13 @@ use Rattle.std.proofs.Common.{◌≡◌, ◌∙◌, ℕ, ap, map, refl, subst, s
 use Rattle.std.specs.Arc.{arc_value}
 use Rattle.std.specs.Option.{option_copied}
 use Rattle.std.specs.Prelude.{Contains, List}
+use Rattle.r4_base.specs.Tree.{Root}
 use Rattle.r4_put_tasks.specs.r4_allowed.Table.{budget_of}
-use Rattle.r4_put_tasks.specs.r4_build.r4_measure.r4_cell.Patch.{HaveNames}
+use Rattle.r4_put_tasks.specs.r4_build.r4_measure.r4_cell.Patch.{HaveNames, root_of_pair}
 use Rattle.r4_put_tasks.specs.r4_build.r4_measure.r4_cell.Seen.{CellSeen}
 use Rattle.r4_put_tasks.specs.r4_build.r4_patch.Effect.{HasEffect}
 use Rattle.r4_put_tasks.specs.r4_build.r4_patch.Joining.{patch_of_change}
+use Rattle.r4_put_tasks.specs.r4_build.r4_patch.Part.{MeetsPart}
 use Rattle.r4_content.specs.Held.{edits_of}
 use Rattle.r4_put_tasks.specs.r4_lost_tasks.r4_extent_shrink.r4_extent_growth.Coming.{count_of}
 use Rattle.r4_put_tasks.specs.r4_build.Building.{set_by}
@@ -45,11 +47,8 @@ change_of_putting-requires-clause-can c =
       budget_of table,
       (
         t,
-        (
-          r,
-          subst (λ (cells : List CellSeen). CanPut b e (budget_of table) t r task.fresh cells)
-              (sym c.as_slice-cells.ensures) (can_be_put task b e table may allowed t r is),
-        ),
+        subst (λ (cells : List CellSeen). CanPut b e (budget_of table) t (root_of_pair task.scope.root) task.fresh cells)
+            (sym c.as_slice-cells.ensures) (can_be_put task b e table may allowed t r is),
       ),
     )
 
@@ -71,9 +70,10 @@ returns c =
       move = put_moves task b e d c.requires.planned may
           (subst (λ (cells : List CellSeen). HasEffect (patch_of_change d) (put_keys b e cells) (set_by e))
           c.as_slice-cells.ensures told.effect);
-      meets = λ t' r' is'. told.meets (budget_of table) t' r'
-          (subst (λ (cells : List CellSeen). CanPut b e (budget_of table) t' r' task.fresh cells)
-          (sym c.as_slice-cells.ensures) (can_be_put task b e table may allowed t' r' is'));
+      meets = λ t' r' is'. subst (λ (q : Root). MeetsPart (patch_of_change d) t' q) is'.root
+          (told.meets (budget_of table) t'
+          (subst (λ (cells : List CellSeen). CanPut b e (budget_of table) t' (root_of_pair task.scope.root) task.fresh cells)
+          (sym c.as_slice-cells.ensures) (can_be_put task b e table may allowed t' r' is')));
       old = λ x has. subst (λ (cells : List CellSeen). Contains cells x) c.as_slice-cells.ensures (told.old x has);
       new = own_numbers task d c.change_of_putting.new.fresh told.numbers told.new;
     }
