@@ -1,6 +1,6 @@
 -- Twigs that get pieces as these are parted, one twig for each part, and the rows above them (docs/volume.md, "Rows that are
 -- packed anew").
-use Rattle.std.specs.Prelude.{◌≡◌, ℕ, ◌+◌, ◌≤◌, List, [], ◌∷◌, length, All, None}
+use Rattle.std.specs.Prelude.{◌≡◌, ◌⊎◌, ℕ, ◌+◌, ◌≤◌, List, [], ◌∷◌, length, All, Contains, None}
 use Rattle.r4_base.specs.Key.{rank}
 use Rattle.r4_base.specs.Node.{mkfs_id_of}
 use Rattle.r4_branch.specs.Pieces.{AreTwigPieces, names_of, next_of, twig_bytes, units_of}
@@ -10,6 +10,7 @@ use Rattle.r4_cell.specs.Seen.{CellSeen, node_of}
 use Rattle.r4_cell.specs.declared.change.Change.{Change}
 use Rattle.r4_cell.specs.declared.change.Fresh.{Fresh}
 use Rattle.r4_node40.specs.Laid.{room_of}
+use Rattle.r4_patch.specs.Joining.{ids_of}
 use Rattle.r4_path.specs.Steps.{Follow}
 use Rattle.r4_rows.specs.Fewest.{EachFits, joined}
 use Rattle.r4_rows.specs.Rows.{Row}
@@ -53,12 +54,14 @@ HaveParts (c ∷ cells) [] = ⊥
 HaveParts (c ∷ cells) (ps ∷ parts) = HasPieces c ps × HaveParts cells parts
 
 -- The change gives the twigs their pieces so, and is the shift of all the pieces; whatever numbers are fresh, it takes none.
+-- What comes was to come below the twigs, or has an old number.
 pub record IsParted (b : Row) (row : List CellSeen) (parts : List (List TwigPiece)) (above : List (List CellSeen))
     (c : Change) : Type 0 where
   pub cells : List CellSeen
   pub have : HaveParts cells parts
   pub shifted : (f : Fresh) → f.next ≤ f.end
       → (s : IsShifted b row (joined parts) above f f c) × (s.cells ≡ cells)
+  pub numbers : (x : CellSeen) → Contains c.new x → Contains b.new x ⊎ Contains (ids_of c.old) x.id
   pub root : c.root ≡ None
 
 -- ---- nodes of parts

@@ -1,5 +1,5 @@
-//! Rows of neighbouring nodes that are packed anew, with pointers to other cells below, up to the root
-//! (docs/volume.md, "Edits").
+//! Rows of neighbouring nodes that are packed anew, with pointers to other cells below, up to the root or to one cell that
+//! stays one (docs/volume.md, "Edits").
 #![tactic(auto)]
 
 mod climbing;

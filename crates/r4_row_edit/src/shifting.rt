@@ -18,9 +18,9 @@ use std::alloc::Global;
 use std::sync::Arc;
 
 /// Gives twigs that stand beside each other these pieces, where leaves go below them and leaves and data blocks come, and
-/// packs the rows above anew, the lowest first, up to the root: as one change. The twigs may become 87 more at most, and
-/// where they become more, the root stands below level 8. The only error is want of memory; then numbers may have been
-/// taken (docs/volume.md, "Rows that are packed anew").
+/// packs the rows above anew, the lowest first, up to one cell that stays one: as one change. The twigs may become 87 more
+/// at most. Where they may become more, the rows go up to the root, which stands below level 8; else no number is taken.
+/// The only error is want of memory; then numbers may have been taken (docs/volume.md, "Rows that are packed anew").
 pub fn shift(
     alloc: Global,
     below: RowChange,
