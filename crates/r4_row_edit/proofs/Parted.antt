@@ -1,7 +1,7 @@
 -- Twigs of parts in the place of a row.
-use Rattle.std.proofs.Common.{◌≡◌, ◌∙◌, ◌⊎◌, inl, inr, ℕ, suc, ◌+◌, ◌<◌, ◌≤◌, List, [], ◌∷◌, ◌++◌, length, refl, sym, ap, subst, take, true, arith, ◌^◌}
+use Rattle.std.proofs.Common.{◌≡◌, ◌∙◌, ◌⊎◌, inl, inr, ℕ, suc, ◌+◌, ◌<◌, ◌≤◌, List, [], ◌∷◌, ◌++◌, get_or, length, map, refl, sym, ap, subst, take, true, arith, ◌^◌}
 use Rattle.std.specs.Prelude.{◌↔◌, All, Contains, None}
-use Rattle.std.proofs.lemmas.List.{append-nil}
+use Rattle.std.proofs.lemmas.List.{append-nil, append_assoc}
 use Rattle.std.proofs.lemmas.List.Elements.{All-head, All-tail, Contains-append_cases, Contains-append_left, Contains-append_right}
 use Rattle.r4_base.specs.Cell.{cell_fault, names_in}
 use Rattle.r4_base.specs.Key.{rank}
@@ -129,7 +129,7 @@ module _ (m to : ℕ) where
   hi_next : (ps : List TwigPiece) (parts : List (List TwigPiece)) (x y : Filled) (xs : List Filled)
       → ArePartsIn m to (ps ∷ parts) (x ∷ (y ∷ xs)) → part_hi to parts ≡ rank y.lo
   hi_next ps [] x y xs h = absurd h.1
-  hi_next ps (qs ∷ parts) x y xs (mine, next, rest) = next_join to qs (joined parts) ∙ sym next.first
+  hi_next ps (qs ∷ parts) x y xs (mine, (next, rest)) = next_join to qs (joined parts) ∙ sym next.first
 
   pub in_stand : (parts : List (List TwigPiece)) (xs : List Filled) → ArePartsIn m to parts xs → MayStandAll 2 to xs
   in_stand [] [] h = tt
@@ -142,6 +142,42 @@ module _ (m to : ℕ) where
         h.0.twig.stands.1,
     in_stand parts (y ∷ xs) h.1,
   )
+
+-- the first part is packed, and then the others
+pub parts_begun : (m to : ℕ) (ps : List TwigPiece) (parts : List (List TwigPiece)) (one more : List Filled)
+    (twigs : List Twig) → one ≡ map filled_twig twigs
+    → ((hi : ℕ) → AreTwigPieces (next_of (part_hi to parts) ps) hi ps
+    → PacksTwigs (next_of (part_hi to parts) ps) hi ps twigs)
+    → AreFewTwigs ps twigs → TwigsHaveMkfsId m twigs → AreParts to (ps ∷ parts) → ArePartsIn m to parts more
+    → ArePartsIn m to (ps ∷ parts) (one ++ more)
+parts_begun m to ps parts one more twigs is packs few own are rest =
+    let (x, alone, in_it) = part_in m (next_of (part_hi to parts) ps) (part_hi to parts) ps twigs are.0 are.1
+    (packs (part_hi to parts) are.0) few own in
+    subst (λ xs. ArePartsIn m to (ps ∷ parts) (xs ++ more)) (sym (is ∙ ap (map filled_twig) alone)) (in_it, rest)
+
+first_key : (hi : ℕ) (ps : List TwigPiece) (p : TwigPiece) → 1 ≤ length ps → p ≡ get_or ps 0 p → rank p.key ≡ next_of hi ps
+first_key hi [] p some is = absurd (omega (arith, some))
+first_key hi (q ∷ ps) p some is = ap (λ (x : TwigPiece). rank x.key) is
+
+pub fill_more : (m : ℕ) (part slice : List TwigPiece) (rest parts : List (List TwigPiece)) (p : TwigPiece)
+    (had one mid all more : List Filled) (twigs : List Twig) → parts ≡ part ∷ rest → p ≡ get_or part 0 p → slice ≡ part
+    → ((hi : ℕ) → AreTwigPieces (rank p.key) hi slice → PacksTwigs (rank p.key) hi slice twigs)
+    → AreFewTwigs slice twigs → TwigsHaveMkfsId m twigs → one ≡ map filled_twig twigs → mid ≡ had ++ one
+    → all ≡ mid ++ more → ((to : ℕ) → AreParts to rest → ArePartsIn m to rest more)
+    → (x : List Filled) × (all ≡ had ++ x) × ((to : ℕ) → AreParts to parts → ArePartsIn m to parts x)
+fill_more m part slice rest parts p had one mid all more twigs is at same packs few own made joins ends others = (
+  one ++ more,
+  ends ∙ (ap (λ xs. xs ++ more) joins ∙ append_assoc had one more),
+  λ to all_are.
+      let are = subst (AreParts to) is all_are in
+      let some = are.0.some in
+      let begin = first_key (part_hi to rest) part p some at in
+      subst (λ gs. ArePartsIn m to gs (one ++ more)) (sym is)
+      (parts_begun m to part rest one more twigs made
+      (λ hi h. subst (λ k. PacksTwigs k hi part twigs) begin (subst (λ s. PacksTwigs (rank p.key) hi s twigs) same
+      (packs hi (subst (AreTwigPieces (rank p.key) hi) (sym same) (subst (λ k. AreTwigPieces k hi part) (sym begin) h)))))
+      (subst (λ s. AreFewTwigs s twigs) same few) own are (others to are.2)),
+)
 
 -- ---- the twigs
 
@@ -286,9 +322,8 @@ module _ (row : List CellSeen) (parts : List (List TwigPiece)) (may : MayPart ro
   pub parts_are : AreParts may.to parts
   parts_are = are_parts may.from may.to parts may.pieces.follow may.some may.fit
 
-  module _ (m : ℕ) (hi : Key) (end : rank hi ≡ may.to) (same_id : m ≡ first_mkfs_id row) (ids : List ℕ)
-      (are_ids : ids ≡ ids_of row) (xs : List Filled) (filled : ArePartsIn m may.to parts xs) (cells : List CellSeen)
-      (are : cells ≡ cells_filled 2 ids hi xs) where
+  module _ (m : ℕ) (hi : Key) (end : rank hi ≡ may.to) (ids : List ℕ) (are_ids : ids ≡ ids_of row) (xs : List Filled)
+      (filled : ArePartsIn m may.to parts xs) where
     at_end : ArePartsIn m (rank hi) parts xs
     at_end = subst (λ k. ArePartsIn m k parts xs) (sym end) filled
 
@@ -303,51 +338,52 @@ module _ (row : List CellSeen) (parts : List (List TwigPiece)) (may : MayPart ro
     pub parts_stand : MayStandAll 2 (rank hi) xs
     parts_stand = in_stand m (rank hi) parts xs at_end
 
-    long : length cells ≡ length parts
-    long = ap length are ∙ (filled_many 2 ids hi xs enough ∙ in_many m may.to parts xs filled)
+    module _ (same_id : m ≡ first_mkfs_id row) (cells : List CellSeen) (are : cells ≡ cells_filled 2 ids hi xs) where
+      long : length cells ≡ length parts
+      long = ap length are ∙ (filled_many 2 ids hi xs enough ∙ in_many m may.to parts xs filled)
 
-    pub made_have : HaveParts cells parts
-    made_have = subst (λ cs. HaveParts cs parts) (sym are)
-        (have_parts m hi ids parts xs enough (subst (λ k. AreParts k parts) (sym end) parts_are) at_end)
+      pub made_have : HaveParts cells parts
+      made_have = subst (λ cs. HaveParts cs parts) (sym are)
+          (have_parts m hi ids parts xs enough (subst (λ k. AreParts k parts) (sym end) parts_are) at_end)
 
-    follow : Follow 2 may.from may.to cells
-    follow = subst (Follow 2 may.from may.to) (sym are) (subst (λ k. Follow 2 may.from k (cells_filled 2 ids hi xs)) end
-        (go parts xs at_end (subst (λ cs. HaveParts cs parts) are made_have) enough some_parts
-        (ap (λ k. next_of k (joined parts)) end ∙ may.pieces.first)))
-      where
-        go : (gs : List (List TwigPiece)) (ys : List Filled) → ArePartsIn m (rank hi) gs ys
-            → HaveParts (cells_filled 2 ids hi ys) gs → length ys ≤ length ids → 1 ≤ length gs
-            → next_of (rank hi) (joined gs) ≡ may.from → Follow 2 may.from (rank hi) (cells_filled 2 ids hi ys)
-        go [] ys h have le some next = absurd (omega (arith, some))
-        go (ps ∷ gs) [] h have le some next = absurd h
-        go (ps ∷ gs) (x ∷ ys) h have le some next =
-            subst (λ k. Follow 2 k (rank hi) (cells_filled 2 ids hi (x ∷ ys)))
-            (h.0.first ∙ (sym (next_join (rank hi) ps (joined gs)) ∙ next)) (along m hi ids ps gs x ys le have)
+      follow : Follow 2 may.from may.to cells
+      follow = subst (Follow 2 may.from may.to) (sym are) (subst (λ k. Follow 2 may.from k (cells_filled 2 ids hi xs)) end
+          (go parts xs at_end (subst (λ cs. HaveParts cs parts) are made_have) enough some_parts
+          (ap (λ k. next_of k (joined parts)) end ∙ may.pieces.first)))
+        where
+          go : (gs : List (List TwigPiece)) (ys : List Filled) → ArePartsIn m (rank hi) gs ys
+              → HaveParts (cells_filled 2 ids hi ys) gs → length ys ≤ length ids → 1 ≤ length gs
+              → next_of (rank hi) (joined gs) ≡ may.from → Follow 2 may.from (rank hi) (cells_filled 2 ids hi ys)
+          go [] ys h have le some next = absurd (omega (arith, some))
+          go (ps ∷ gs) [] h have le some next = absurd h
+          go (ps ∷ gs) (x ∷ ys) h have le some next =
+              subst (λ k. Follow 2 k (rank hi) (cells_filled 2 ids hi (x ∷ ys)))
+              (h.0.first ∙ (sym (next_join (rank hi) ps (joined gs)) ∙ next)) (along m hi ids ps gs x ys le have)
 
-    pub parted_twigs : (f : Fresh) → AreTwigsWith row (joined parts) f f cells
-    parted_twigs f =
-        let all = together may.from may.to cells parts follow made_have in
-        record {
-          from = may.from;
-          to = may.to;
-          along = may.along;
-          twigs = record {
-            has = record { follow = follow; names = all.names; units = all.units };
-            numbers = refl;
-            sound = λ c at. filled_sound 2 ids hi xs (in_whole m (rank hi) parts xs at_end) parts_stand c
-                (subst (λ cs. Contains cs c) are at);
-          };
-          grows = λ more g. let few = may.few in let many = long in omega (arith, few, many);
-          taken = [];
-          ids = ap ids_of are ∙ (filled_ids 2 ids hi xs
-              ∙ (ap (λ is. take (length (cells_filled 2 ids hi xs)) is) are_ids
-              ∙ (ap (λ (cs : List CellSeen). take (length cs) (ids_of row)) (sym are)
-              ∙ sym (append-nil (take (length cells) (ids_of row))))));
-          count = tt;
-          left = let same : f.next ≡ f.next + 0 = omega arith in ap (λ n. record f { next = n }) same;
-          mkfs_id = λ c at. cells_ids m 2 ids hi xs (in_ids m (rank hi) parts xs at_end) c
-              (subst (λ cs. Contains cs c) are at) ∙ same_id;
-        }
+      pub parted_twigs : (f : Fresh) → AreTwigsWith row (joined parts) f f cells
+      parted_twigs f =
+          let all = together may.from may.to cells parts follow made_have in
+          record {
+            from = may.from;
+            to = may.to;
+            along = may.along;
+            twigs = record {
+              has = record { follow = follow; names = all.names; units = all.units };
+              numbers = refl;
+              sound = λ c at. filled_sound 2 ids hi xs (in_whole m (rank hi) parts xs at_end) parts_stand c
+                  (subst (λ cs. Contains cs c) are at);
+            };
+            grows = λ more g. let few = may.few in let many = long in omega (arith, few, many);
+            taken = [];
+            ids = ap ids_of are ∙ (filled_ids 2 ids hi xs
+                ∙ (ap (λ is. take (length (cells_filled 2 ids hi xs)) is) are_ids
+                ∙ (ap (λ (cs : List CellSeen). take (length cs) (ids_of row)) (sym are)
+                ∙ sym (append-nil (take (length cells) (ids_of row))))));
+            count = tt;
+            left = let same : f.next ≡ f.next + 0 = omega arith in ap (λ n. record f { next = n }) same;
+            mkfs_id = λ c at. cells_ids m 2 ids hi xs (in_ids m (rank hi) parts xs at_end) c
+                (subst (λ cs. Contains cs c) are at) ∙ same_id;
+          }
 
 -- ---- the rows above may be packed anew over them
 
