@@ -89,8 +89,10 @@ part_in m lo hi ps (x ∷ []) are fits packs few own = (
     first = packs.from ∙ sym are.first;
     twig = record {
       from = refl;
-      stands = (packs.stands.0,
-          subst (λ k. cell_fault true (2 ^ 64) 2 k hi x.block ≡ None) (sym packs.from) packs.stands.1);
+      stands = (
+        packs.stands.0,
+        subst (λ k. cell_fault true (2 ^ 64) 2 k hi x.block ≡ None) (sym packs.from) packs.stands.1,
+      );
       names = packs.names;
       units = packs.units;
       fits = packs.fits;

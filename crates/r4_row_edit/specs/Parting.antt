@@ -32,7 +32,8 @@ pub record MayPart (row : List CellSeen) (parts : List (List TwigPiece)) : Type 
   pub few : length parts ≤ length row
 
 -- Twigs that may get such parts, and rows over them up to one cell, which stays one.
-pub record CanPart (row : List CellSeen) (parts : List (List TwigPiece)) (above : List (List CellSeen)) : Type 0 where
+pub record CanPart (row : List CellSeen) (parts : List (List TwigPiece))
+    (above : List (List CellSeen)) : Type 0 where
   pub may : MayPart row parts
   pub up : StandUp 0 2 row above
 
@@ -55,8 +56,8 @@ HaveParts (c ∷ cells) (ps ∷ parts) = HasPieces c ps × HaveParts cells parts
 
 -- The change gives the twigs their pieces so, and is the shift of all the pieces; whatever numbers are fresh, it takes none.
 -- What comes was to come below the twigs, or has an old number.
-pub record IsParted (b : Row) (row : List CellSeen) (parts : List (List TwigPiece)) (above : List (List CellSeen))
-    (c : Change) : Type 0 where
+pub record IsParted (b : Row) (row : List CellSeen) (parts : List (List TwigPiece))
+    (above : List (List CellSeen)) (c : Change) : Type 0 where
   pub cells : List CellSeen
   pub have : HaveParts cells parts
   pub shifted : (f : Fresh) → f.next ≤ f.end
@@ -87,4 +88,5 @@ abbrev pub ArePartsIn : (mkfs_id to : ℕ) → List (List TwigPiece) → List Fi
 ArePartsIn m to [] [] = Unit {0}
 ArePartsIn m to [] (x ∷ xs) = ⊥
 ArePartsIn m to (ps ∷ parts) [] = ⊥
-ArePartsIn m to (ps ∷ parts) (x ∷ xs) = IsPartIn m (part_hi to parts) ps x × ArePartsIn m to parts xs
+ArePartsIn m to (ps ∷ parts) (x ∷ xs) = IsPartIn m (part_hi to parts) ps x
+    × ArePartsIn m to parts xs

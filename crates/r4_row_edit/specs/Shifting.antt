@@ -50,7 +50,8 @@ pub record CanShift (row : List CellSeen) (ps : List TwigPiece) (above : List (L
   pub numbers : 1 ≤ more → HasNumbers (more + numbers_for more above) fresh
 
 -- The change has what goes and comes below a row of twigs, the row, and the rows above.
-pub record HasRows (b s : Row) (above : List (List CellSeen)) (before after : Fresh) (c : Change) : Type 0 where
+pub record HasRows (b s : Row) (above : List (List CellSeen)) (before after : Fresh)
+    (c : Change) : Type 0 where
   pub more : List Row
   pub over : Option CellSeen
   pub climbed : Climbed 2 s above before after more over

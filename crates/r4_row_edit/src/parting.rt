@@ -50,7 +50,8 @@ fn parted_twigs(
     requires { MayPart (map (λ c. arc_value c) row.now) (map (λ p. p.items) parts.now) }
     ensures have { IfOk result (λ v. HaveParts (map (λ c. arc_value c) v.items)
         (map (λ p. p.items) parts.now)) }
-    ensures twigs { IfOk result (λ v. (f : FreshSeen) → AreTwigsWith (map (λ c. arc_value c) row.now)
+    ensures twigs { IfOk result (λ v. (f : FreshSeen)
+        → AreTwigsWith (map (λ c. arc_value c) row.now)
         (joined (map (λ p. p.items) parts.now)) f f (map (λ c. arc_value c) v.items)) }
 {
     let first = &row[0];
