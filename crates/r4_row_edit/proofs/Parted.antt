@@ -25,7 +25,6 @@ use Rattle.r4_path.proofs.CellNodes.{names_are, units_are}
 use Rattle.r4_path.proofs.Upwards.{long_ids}
 use Rattle.r4_path.specs.Grafts.{TwigsHaveMkfsId}
 use Rattle.r4_path.specs.Levels.{units_of_cells}
-use Rattle.r4_path.specs.Sharing.{IsSound}
 use Rattle.r4_path.specs.Steps.{AreNaming, Follow}
 use Rattle.r4_rows.specs.Fewest.{EachFits, joined}
 use Rattle.r4_squeeze.proofs.NodeCells.{AreWhole, filled_ids, filled_many, filled_sound}

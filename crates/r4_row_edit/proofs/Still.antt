@@ -1,11 +1,10 @@
 -- Rows that take no numbers are the same whatever numbers are fresh.
 use Rattle.std.proofs.Common.{◌≡◌, ◌⊎◌, ◌∙◌, inl, inr, ℕ, ◌+◌, ◌≤◌, List, [], ◌∷◌, ◌++◌, length, take, refl, sym, ap, subst, arith}
-use Rattle.std.specs.Prelude.{Contains, Option, None, Some}
+use Rattle.std.specs.Prelude.{Contains, None}
 use Rattle.std.proofs.lemmas.List.Elements.{Contains-append_cases, Contains-append_right}
 use Rattle.std.proofs.lemmas.Option.{none-some}
-use Rattle.r4_base.specs.Tree.{IsNode}
 use Rattle.r4_branch.specs.declared.piece.TwigPiece.{TwigPiece}
-use Rattle.r4_cell.specs.Seen.{CellSeen, node_of}
+use Rattle.r4_cell.specs.Seen.{CellSeen}
 use Rattle.r4_cell.specs.declared.change.Change.{Change}
 use Rattle.r4_cell.specs.declared.change.Fresh.{Fresh}
 use Rattle.r4_patch.specs.Joining.{ids_of}
@@ -18,9 +17,9 @@ use Rattle.r4_rows.specs.Numbers.{AreNumbered}
 use Rattle.r4_rows.specs.Rows.{Row, all_news, all_olds, news_in, olds_in}
 use Rattle.r4_row_edit.proofs.Climbs.{nothing_left}
 use Rattle.r4_row_edit.proofs.Parted.{may_get}
-use Rattle.r4_row_edit.specs.Climbing.{Climbed, growth}
+use Rattle.r4_row_edit.specs.Climbing.{Climbed}
 use Rattle.r4_row_edit.specs.Parting.{HaveParts, IsParted, MayPart}
-use Rattle.r4_row_edit.specs.Shifting.{HasRows, IsShifted}
+use Rattle.r4_row_edit.specs.Shifting.{HasRows}
 use Rattle.r4_row_edit.specs.Twigs.{AreTwigsWith}
 
 low : (n to : ℕ) (rows : List Row) → AreNumbered n to rows None → n ≤ to

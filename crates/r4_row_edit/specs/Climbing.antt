@@ -11,7 +11,7 @@ use Rattle.r4_path.specs.Steps.{Follow, OnlyTakes}
 use Rattle.r4_rows.specs.Numbers.{AreNumbered}
 use Rattle.r4_rows.specs.Pointers.{PointsBelow}
 use Rattle.r4_rows.specs.Rows.{EndsIn, Row, news_in}
-use Rattle.r4_row_edit.specs.Over.{ShareOut, StandsOver}
+use Rattle.r4_row_edit.specs.Over.{StandsOver}
 use Rattle.r4_row_edit.specs.declared.climbing.RowChange.{RowChange}
 
 -- what contracts see of a level of a change

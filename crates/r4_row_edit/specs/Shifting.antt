@@ -1,6 +1,6 @@
 -- Twigs that get other pieces, over leaves and data blocks that go and come, and the rows above them, as one change
 -- (docs/volume.md, "Edits").
-use Rattle.std.specs.Prelude.{◌≡◌, ◌↔◌, ℕ, ◌+◌, ◌^◌, ◌<◌, ◌≤◌, List, [], ◌++◌, length, Bool, Contains, Option}
+use Rattle.std.specs.Prelude.{◌≡◌, ◌↔◌, ℕ, ◌+◌, ◌<◌, ◌≤◌, List, [], ◌++◌, length, Bool, Contains, Option}
 use Rattle.r4_base.specs.Tree.{IsNode, Name, Root, Store}
 use Rattle.r4_base.specs.Value.{Value}
 use Rattle.r4_branch.specs.Pieces.{names_of, units_of}

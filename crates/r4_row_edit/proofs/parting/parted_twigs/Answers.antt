@@ -6,7 +6,7 @@ use Rattle.r4_base.specs.Key.{rank}
 use Rattle.r4_base.specs.Node.{mkfs_id_of}
 use Rattle.r4_cell.specs.Seen.{CellSeen}
 use Rattle.r4_squeeze.proofs.TwigSlums.{first_id, last_hi}
-use Rattle.r4_squeeze.specs.Packing.{cells_filled, numbers}
+use Rattle.r4_squeeze.specs.Packing.{numbers}
 use Rattle.r4_row_edit.proofs.Parted.{enough, made_have, parted_twigs, parts_are, parts_stand, range_some}
 use Rattle.r4_row_edit.specs.Parting.{ArePartsIn}
 use Rattle.r4_row_edit.proofs.parting.parted_twigs.Goals as goal

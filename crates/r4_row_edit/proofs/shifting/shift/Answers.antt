@@ -1,10 +1,9 @@
-use Rattle.std.proofs.Common.{inl, inr, arith, map, subst, sym, length}
+use Rattle.std.proofs.Common.{map, subst, sym}
 use Rattle.std.specs.Arc.{arc_value}
 use Rattle.std.proofs.lemmas.Result.{IfOk-weaker}
 use Rattle.r4_row_edit.specs.Climbing.{CanClimb, row_of}
 use Rattle.r4_row_edit.specs.Shifting.{HasRows}
 use Rattle.r4_row_edit.specs.Twigs.{AreTwigsWith, MayGet}
-use Rattle.r4_row_edit.proofs.Climbs.{none_or_some}
 use Rattle.r4_row_edit.proofs.TwigRows.{can_climb_on, room_for}
 use Rattle.r4_row_edit.proofs.shifting.shift.Goals as goal
 
