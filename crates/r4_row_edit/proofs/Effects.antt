@@ -1,5 +1,5 @@
 -- A shift is a patch, with the effect that its pieces have.
-use Rattle.std.proofs.Common.{◌≡◌, ℕ, List, ◌++◌, arith}
+use Rattle.std.proofs.Common.{ℕ, List, arith}
 use Rattle.std.specs.Prelude.{Bool, Option}
 use Rattle.r4_base.specs.Tree.{Root, Store}
 use Rattle.r4_base.specs.Value.{Value}
