@@ -1,0 +1,9 @@
+//! Keys that are gathered below one twig, and leaves without units that go out of their way (docs/volume.md, "Bodies in
+//! extents").
+#![tactic(auto)]
+
+mod clearing;
+mod finding;
+
+pub use clearing::{Clearing, cleared};
+pub use finding::row_among;
