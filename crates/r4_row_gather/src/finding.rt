@@ -28,16 +28,16 @@ pub fn row_among(
     };
     let mut row = Vec::new(alloc);
     row.push(Arc::try_clone(first)?)?;
-    let mut end = first.hi();
+    let mut hi = first.hi();
     for _ in 0..cells.len() {
-        if !end.is_below(to) {
+        if !hi.is_below(to) {
             return Ok(Some(Cells::from_vec(row)));
         }
-        let Some(next) = cell_from(cells, level, end) else {
+        let Some(next) = cell_from(cells, level, hi) else {
             return Ok(None);
         };
         row.push(Arc::try_clone(next)?)?;
-        end = next.hi();
+        hi = next.hi();
     }
     Ok(None)
 }
