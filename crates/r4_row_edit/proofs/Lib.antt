@@ -6,3 +6,5 @@ pub mod Shifts
 pub mod Effects
 pub mod Spliced
 pub mod TwigRows
+pub mod Parted
+pub mod Still

@@ -158,7 +158,7 @@ shifted t r b row cells ps above before mid after more over i w c = record {
     );
   };
   mounts = mounted t r i.part 2 (record { old = row; new = cells }) more above (omega arith) c.points c.olds i.stand;
-  ends = c.ends r i.up;
+  ends = c.ends r (λ more. i.up (λ may. let most = w.grows 0 may in omega (arith, most, more)));
   nodes = λ x at. elim (Contains-append_cases b.new (cells ++ news_in more over) x at) [
     | inl low ↦ i.nodes x low
     | inr rest ↦ elim (Contains-append_cases cells (news_in more over) x rest) [

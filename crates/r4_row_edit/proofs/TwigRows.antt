@@ -1,5 +1,5 @@
 -- Twigs with other pieces in the place of a row.
-use Rattle.std.proofs.Common.{◌≡◌, ◌∙◌, ℕ, suc, ◌+◌, ◌-◌, ◌≤◌, List, [], ◌∷◌, ◌++◌, length, map, take, refl, sym, ap, subst, arith}
+use Rattle.std.proofs.Common.{◌≡◌, ◌∙◌, inl, inr, ℕ, suc, ◌+◌, ◌-◌, ◌≤◌, List, [], ◌∷◌, ◌++◌, length, map, take, refl, sym, ap, subst, arith}
 use Rattle.std.proofs.lemmas.List.{length-append}
 use Rattle.std.proofs.lemmas.List.Elements.{All-append}
 use Rattle.std.specs.Prelude.{Contains}
@@ -23,9 +23,9 @@ use Rattle.r4_squeeze.proofs.PackedLeft.{twigs_filled, twigs_stand}
 use Rattle.r4_squeeze.proofs.SqueezedSlums.{AllHaveId, cells_ids, follow_as, same_range, twigs_ids}
 use Rattle.r4_squeeze.specs.Packing.{MayStandAll, cells_filled, filled_twig, first_mkfs_id}
 use Rattle.r4_squeeze.specs.declared.filled.Filled.{Filled}
-use Rattle.r4_row_edit.proofs.Climbs.{able_of, fresh_able, ids_able, least_taken, low_able, numbers_less, some_numbers}
+use Rattle.r4_row_edit.proofs.Climbs.{able_of, ids_able, least_taken, low_able, none_or_some, numbers_less, stand_less, taken_able}
 use Rattle.r4_row_edit.proofs.Counted.{all_taken}
-use Rattle.r4_row_edit.specs.Climbing.{CanClimb}
+use Rattle.r4_row_edit.specs.Climbing.{CanClimb, HasNumbers, numbers_for}
 use Rattle.r4_row_edit.specs.Shifting.{CanShift}
 use Rattle.r4_row_edit.proofs.Packed.{some_cells}
 use Rattle.r4_row_edit.specs.Numbers.{TakesNumbers}
@@ -112,34 +112,28 @@ pub can_climb_on : (row cells : List CellSeen) (ps : List TwigPiece) (above : Li
 can_climb_on row cells ps above more before mid can w =
     let grown = w.grows more can.may in
     let few = can.few in
-    let numbers = can.numbers in
-    let some = some_numbers more above in
-    let took = taken_few in
-    let next = ap (λ (f : Fresh). f.next) w.left in
-    let end = ap (λ (f : Fresh). f.end) w.left in
-    let unplaced = can.unplaced in
-    let fits = can.fits in
-    let fewer = numbers_less (length cells - length row) more above (omega (arith, grown)) in
+    let less : length cells - length row ≤ more = omega (arith, grown) in
     record {
       low = omega arith;
-      up = can.up;
-      share = record {
-        ranges = λ m a b f.
-            let (lm, fa, tb) = same_range 2 m w.from w.to a b row
-            (some_cells 2 can.may.from can.may.to row can.may.some can.may.along) w.along f in
-            follow_as 2 m w.from w.to a b cells lm fa tb w.twigs.has.follow;
-        able = able_of (take (length cells) (ids_of row) ++ w.taken) cells w.ids
-            (All-append IsPointable (take (length cells) (ids_of row)) w.taken
-            (ids_able (length cells) row (low_able 2 row above can.up))
-            (fresh_able before.next w.taken unplaced (omega (arith, took, numbers, some, fits)) w.count));
-      };
+      up = stand_less (length cells - length row) more 2 row above less can.up;
+      ranges = λ m a b f.
+          let (lm, fa, tb) = same_range 2 m w.from w.to a b row
+          (some_cells 2 can.may.from can.may.to row can.may.some can.may.along) w.along f in
+          follow_as 2 m w.from w.to a b cells lm fa tb w.twigs.has.follow;
+      able = λ some. able_of (take (length cells) (ids_of row) ++ w.taken) cells w.ids
+          (All-append IsPointable (take (length cells) (ids_of row)) w.taken
+          (ids_able (length cells) row (low_able more 2 row above can.up (omega (arith, some, less))))
+          (taken_able before.next more (more + numbers_for more above) before w.taken refl taken_few (omega arith)
+          can.numbers w.count));
       further = w.taken;
       ids = w.ids;
       few = omega (arith, grown, few);
       height = λ one. can.height (omega (arith, one, grown));
-      unplaced = omega (arith, unplaced, next);
-      numbers = omega (arith, next, took, end, numbers, fewer);
-      fits = omega (arith, end, fits);
+      ordered = elim (none_or_some more) [
+        | inl none ↦ let took = taken_few in let order = can.ordered in omega (arith, none, took, next, end, order)
+        | inr some ↦ let enough = (have some).enough in omega (arith, enough)
+      ];
+      numbers = λ one. have (omega (arith, one, grown));
     }
   where
     taken_few : length w.taken ≤ more
@@ -151,3 +145,33 @@ can_climb_on row cells ps above more before mid can w =
         let front = least_taken (length cells) (ids_of row) in
         let rows_many = long_ids row in
         omega (arith, ids, many, both, grown, front, rows_many)
+
+    next : mid.next ≡ before.next + length w.taken
+    next = ap (λ (f : Fresh). f.next) w.left
+
+    end : mid.end ≡ before.end
+    end = ap (λ (f : Fresh). f.end) w.left
+
+    have : 1 ≤ more → HasNumbers (numbers_for (length cells - length row) above) mid
+    have some =
+        let h = can.numbers some in
+        let unplaced = h.unplaced in
+        let enough = h.enough in
+        let fits = h.fits in
+        let took = taken_few in
+        let at = next in
+        let to = end in
+        let grown = w.grows more can.may in
+        let fewer = numbers_less (length cells - length row) more above (omega (arith, grown)) in
+        record {
+          unplaced = omega (arith, unplaced, at);
+          enough = omega (arith, at, took, to, enough, fewer);
+          fits = omega (arith, to, fits);
+        }
+
+pub room_for : (row : List CellSeen) (ps : List TwigPiece) (above : List (List CellSeen)) (more : ℕ) (fresh : Fresh)
+    → CanShift row ps above more fresh → fresh.next + more ≤ fresh.end
+room_for row ps above more fresh can = elim (none_or_some more) [
+  | inl none ↦ let order = can.ordered in omega (arith, none, order)
+  | inr some ↦ let enough = (can.numbers some).enough in omega (arith, enough)
+]

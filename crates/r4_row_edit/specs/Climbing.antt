@@ -1,6 +1,6 @@
--- Rows of a change, one over the other, up to the root (docs/volume.md, "Edits").
+-- Rows of a change, one over the other, up to the root or to one cell that stays one (docs/volume.md, "Edits").
 use Rattle.std.specs.Prelude.{◌≡◌, ℕ, suc, ◌+◌, ◌-◌, ◌^◌, ◌<◌, ◌≤◌, List, [], ◌∷◌, ◌++◌, length, take, All, Contains, Option, None, Some}
-use Rattle.r4_base.specs.Key.{least, top}
+use Rattle.r4_base.specs.Key.{least, rank, top}
 use Rattle.r4_base.specs.Tree.{IsNode, Root}
 use Rattle.r4_cell.specs.Seen.{CellSeen, node_of}
 use Rattle.r4_cell.specs.declared.change.Fresh.{Fresh}
@@ -27,17 +27,25 @@ pub record IsTop (l : ℕ) (cells : List CellSeen) : Type 0 where
   pub range : Follow l least top cells
   pub able : IsPointable root.id
 
--- each row stands over the one before it, the lowest first, and the last one is the root
-abbrev pub StandUp : (l : ℕ) → (low : List CellSeen) → List (List CellSeen) → Type 0
-StandUp l low [] = IsTop l low
-StandUp l low (row ∷ rows) = StandsOver l low row × StandUp (suc l) row rows
+-- One cell of the level; and where rows grow by so many cells, by one at least, the root.
+pub record IsHighest (grows l : ℕ) (cells : List CellSeen) : Type 0 where
+  pub cell : CellSeen
+  pub one : cells ≡ cell ∷ []
+  pub level : cell.level ≡ l
+  pub some : rank cell.lo < rank cell.hi
+  pub top : 1 ≤ grows → IsTop l cells
+
+-- each row stands over the one before it, the lowest first, and the last one is one cell, or the root where they grow
+abbrev pub StandUp : (grows l : ℕ) → (low : List CellSeen) → List (List CellSeen) → Type 0
+StandUp d l low [] = IsHighest d l low
+StandUp d l low (row ∷ rows) = StandsOver l low row × StandUp d (suc l) row rows
 
 -- it is the root of this number
 abbrev pub IsUpTo : Root → (low : List CellSeen) → List (List CellSeen) → Type 0
 IsUpTo r low [] = (c : CellSeen) × (low ≡ c ∷ []) × (c.id ≡ r.id)
 IsUpTo r low (row ∷ rows) = IsUpTo r row rows
 
--- how many numbers so many rows may need, where each grows by so many cells at most
+-- how many numbers so many rows may need with a new root, where each grows by so many cells at most
 abbrev pub numbers_for : (growth : ℕ) → List (List CellSeen) → ℕ
 numbers_for d [] = 1
 numbers_for d (row ∷ rows) = d + numbers_for d rows
@@ -46,19 +54,26 @@ numbers_for d (row ∷ rows) = d + numbers_for d rows
 abbrev pub growth : Row → ℕ
 growth s = length s.new - length s.old
 
+-- There are so many fresh numbers, of nodes that have no block yet.
+pub record HasNumbers (count : ℕ) (fresh : Fresh) : Type 0 where
+  pub unplaced : 2 ^ 63 ≤ fresh.next
+  pub enough : fresh.next + count ≤ fresh.end
+  pub fits : fresh.end < 2 ^ 64
+
 -- The rows above may be packed anew over what comes in the lowest one: its new cells share out the range of the old ones,
--- with their numbers from the left on, and are not many more; and there are fresh numbers.
+-- with their numbers from the left on, and are not many more. They may be pointed to, where there is a row above or the
+-- root gives way to several. Where they are more, the root stands low enough, and there are fresh numbers.
 pub record CanClimb (l : ℕ) (s : Row) (rows : List (List CellSeen)) (fresh : Fresh) : Type 0 where
   pub low : 2 ≤ l
-  pub up : StandUp l s.old rows
-  pub share : ShareOut s.old s.new
+  pub up : StandUp (growth s) l s.old rows
+  pub ranges : (level from to : ℕ) → Follow level from to s.old → Follow level from to s.new
+  pub able : 1 ≤ growth s + length rows → All (λ (c : CellSeen). IsPointable c.id) s.new
   pub further : List ℕ
   pub ids : ids_of s.new ≡ take (length s.new) (ids_of s.old) ++ further
   pub few : growth s ≤ 87
   pub height : 1 ≤ growth s → l + length rows < 8
-  pub unplaced : 2 ^ 63 ≤ fresh.next
-  pub numbers : fresh.next + numbers_for (growth s) rows ≤ fresh.end
-  pub fits : fresh.end < 2 ^ 64
+  pub ordered : fresh.next ≤ fresh.end
+  pub numbers : 1 ≤ growth s → HasNumbers (numbers_for (growth s) rows) fresh
 
 -- The root gives way to several cells, and so a new one may stand over them.
 pub record CanRise (l : ℕ) (s : Row) (fresh : Fresh) : Type 0 where
@@ -85,7 +100,7 @@ AreFirst (s ∷ more) [] = ⊥
 AreFirst (s ∷ more) (row ∷ rows) = (s.old ≡ row) × AreFirst more rows
 
 -- Rows over the lowest one, up to one cell in the place of one or a new root, with the old ones' numbers and then fresh
--- ones.
+-- ones. Where the lowest one does not grow no number is taken, and no root comes.
 pub record Climbed (l : ℕ) (s : Row) (rows : List (List CellSeen)) (before after : Fresh) (more : List Row)
     (over : Option CellSeen) : Type 0 where
   pub points : RowsOver l s more
@@ -93,5 +108,6 @@ pub record Climbed (l : ℕ) (s : Row) (rows : List (List CellSeen)) (before aft
   pub numbers : AreNumbered before.next after.next more over
   pub sound : (c : CellSeen) → Contains (news_in more None) c → IsSound c
   pub root_node : (c : CellSeen) → over ≡ Some c → IsNode (node_of c)
-  pub ends : (r : Root) → IsUpTo r s.old rows → EndsIn r s more over
+  pub ends : (r : Root) → (1 ≤ growth s → IsUpTo r s.old rows) → EndsIn r s more over
   pub taken : OnlyTakes before after
+  pub still : growth s ≡ 0 → (after ≡ before) × (over ≡ None)

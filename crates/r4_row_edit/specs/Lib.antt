@@ -4,3 +4,4 @@ pub mod Repacked
 pub mod Climbing
 pub mod Twigs
 pub mod Shifting
+pub mod Parting

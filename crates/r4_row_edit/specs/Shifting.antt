@@ -16,11 +16,11 @@ use Rattle.r4_rows.specs.Numbers.{HaveNumbersBelow}
 use Rattle.r4_rows.specs.Rows.{AreNamedAfter, AreThere, Row, all_news, all_olds}
 use Rattle.r4_rows.specs.Turn.{IsTurn}
 use Rattle.r4_rows.specs.Units.{TakeEffect}
-use Rattle.r4_row_edit.specs.Climbing.{Climbed, IsUpTo, StandUp, numbers_for}
-use Rattle.r4_row_edit.specs.Twigs.{AreTwigsWith, MayGet}
+use Rattle.r4_row_edit.specs.Climbing.{Climbed, HasNumbers, IsUpTo, StandUp, numbers_for}
+use Rattle.r4_row_edit.specs.Twigs.{AreTooFew, AreTwigsWith, MayGet}
 
--- In this part of a tree the twigs and the rows above them stand, up to the root, and what goes below the twigs, which
--- they name. The pieces name what the twigs name, with what comes below in the place of what goes. What comes may stand
+-- In this part of a tree the twigs and the rows above them stand, and what goes below the twigs, which they name. Where
+-- the twigs are too few for the pieces the rows go up to the root. The pieces name what the twigs name, with what comes below in the place of what goes. What comes may stand
 -- and has numbers that serve, and the fresh numbers are free.
 pub record IsShiftIn (t : Store Value) (r : Root) (b : Row) (row : List CellSeen) (ps : List TwigPiece)
     (above : List (List CellSeen)) (fresh : Fresh) : Type 0 where
@@ -34,21 +34,30 @@ pub record IsShiftIn (t : Store Value) (r : Root) (b : Row) (row : List CellSeen
   pub names : (from to : ℕ) → Follow 2 from to row → (n : Name) → Contains (names_of to ps) n
       ↔ AreNamedAfter b (record { old = row; new = [] }) n
   pub stand : (cells : List CellSeen) → Contains above cells → AreThere t cells
-  pub up : IsUpTo r row above
+  pub up : AreTooFew row ps → IsUpTo r row above
   pub free : IsFree fresh.next fresh.end t
   pub below : HaveNumbersBelow t fresh.next fresh.end b
 
--- The pieces may be given to the twigs, whatever stands in the tree: the rows stand over the twigs up to the root, so
--- many more twigs suffice, and there are fresh numbers.
+-- The pieces may be given to the twigs, whatever stands in the tree: so many more twigs suffice, and the rows stand over
+-- the twigs up to one cell. Where more twigs may be needed, that is the root, and there are fresh numbers.
 pub record CanShift (row : List CellSeen) (ps : List TwigPiece) (above : List (List CellSeen)) (more : ℕ) (fresh : Fresh)
     : Type 0 where
   pub may : MayGet row ps more
-  pub up : StandUp 2 row above
+  pub up : StandUp more 2 row above
   pub few : more ≤ 87
   pub height : 1 ≤ more → 2 + length above < 8
-  pub unplaced : 2 ^ 63 ≤ fresh.next
-  pub numbers : fresh.next + more + numbers_for more above ≤ fresh.end
-  pub fits : fresh.end < 2 ^ 64
+  pub ordered : fresh.next ≤ fresh.end
+  pub numbers : 1 ≤ more → HasNumbers (more + numbers_for more above) fresh
+
+-- The change has what goes and comes below a row of twigs, the row, and the rows above.
+pub record HasRows (b s : Row) (above : List (List CellSeen)) (before after : Fresh)
+    (c : Change) : Type 0 where
+  pub more : List Row
+  pub over : Option CellSeen
+  pub climbed : Climbed 2 s above before after more over
+  pub old : c.old ≡ all_olds b s more
+  pub new : c.new ≡ all_news b s more over
+  pub root : c.root ≡ root_pair over
 
 -- The change has the cells below, the twigs, and the rows above.
 pub record IsShifted (b : Row) (row : List CellSeen) (ps : List TwigPiece) (above : List (List CellSeen))

@@ -25,6 +25,10 @@ pub record MayGet (row : List CellSeen) (ps : List TwigPiece) (more : ℕ) : Typ
   pub one : 1 ≤ length each
   pub few : length each ≤ length row + more
 
+-- The twigs are too few for the pieces, however these are shared out.
+abbrev pub AreTooFew : (row : List CellSeen) → (ps : List TwigPiece) → Type 0
+AreTooFew row ps = MayGet row ps 0 → ⊥
+
 -- Twigs with the pieces share out the range: as few as hold them, with the row's numbers from the left on, and then fresh
 -- ones.
 pub record AreTwigsWith (row : List CellSeen) (ps : List TwigPiece) (before after : Fresh) (cells : List CellSeen)

@@ -23,11 +23,12 @@ pub struct RowChange {
     pub new: Cells,
 }
 
-/// The rows of a change from one on, with the rows of nodes above it, the lowest first, up to the root: each is packed
-/// anew, with pointers to what comes below, until one cell stands in the place of one. They are put behind the rows that
-/// there are. Answers the new root, where the old one gives way to several. The lowest row may grow by 87 cells at most;
-/// each row above takes no more numbers than it grows by, and a new root one. The only error is want of memory; then
-/// numbers may have been taken (docs/volume.md, "Edits").
+/// The rows of a change from one on, with the rows of nodes above it, the lowest first: each is packed anew, with pointers
+/// to what comes below, until one cell stands in the place of one. The highest row is one cell; and the root, where the
+/// lowest row grows, by 87 cells at most. They are put behind the rows that there are. Answers the new root, where the old
+/// one gives way to several. Each row above takes no more numbers than it grows by, and a new root one: none where the
+/// lowest row does not grow. The only error is want of memory; then numbers may have been taken (docs/volume.md, "Rows
+/// that are packed anew").
 pub fn climb(
     alloc: Global,
     above: IntoIter<Cells>,

@@ -5,8 +5,8 @@ ghost use Rattle.std.specs.Arc.{arc_value};
 ghost use Rattle.std.specs.Option.{option_map};
 ghost use Rattle.r4_path.specs.Steps.{root_pair};
 ghost use Rattle.r4_rows.specs.Rows.{news_in, olds_in};
-ghost use Rattle.r4_row_edit.specs.Climbing.{row_of};
-ghost use Rattle.r4_row_edit.specs.Shifting.{CanShift, IsShifted};
+ghost use Rattle.r4_row_edit.specs.Climbing.{CanClimb, row_of};
+ghost use Rattle.r4_row_edit.specs.Shifting.{CanShift, HasRows, IsShifted};
 
 use crate::climbing::{RowChange, climb};
 use crate::twigs::twigs_with;
@@ -18,9 +18,9 @@ use std::alloc::Global;
 use std::sync::Arc;
 
 /// Gives twigs that stand beside each other these pieces, where leaves go below them and leaves and data blocks come, and
-/// packs the rows above anew, the lowest first, up to the root: as one change. The twigs may become 87 more at most, and
-/// where they become more, the root stands below level 8. The only error is want of memory; then numbers may have been
-/// taken (docs/volume.md, "Rows that are packed anew").
+/// packs the rows above anew, the lowest first, up to one cell that stays one: as one change. The twigs may become 87 more
+/// at most. Where they may become more, the rows go up to the root, which stands below level 8; else no number is taken.
+/// The only error is want of memory; then numbers may have been taken (docs/volume.md, "Rows that are packed anew").
 pub fn shift(
     alloc: Global,
     below: RowChange,
@@ -37,6 +37,20 @@ pub fn shift(
         old: row,
         new: Cells::from_vec(new),
     };
+    with_rows(alloc, below, twigs, above, fresh)
+}
+
+/// What goes and comes below a row of twigs, the row, and the rows above it packed anew, as one change.
+pub fn with_rows(
+    alloc: Global,
+    below: RowChange,
+    twigs: RowChange,
+    above: Vec<Cells>,
+    fresh: &mut Fresh,
+) -> Result<Change, Memory>
+    requires { CanClimb 2 (row_of twigs) above.items fresh.old }
+    ensures { IfOk result (HasRows (row_of below) (row_of twigs) above.items fresh.old fresh.new) }
+{
     let mut rows = Vec::new(alloc);
     rows.push(below)?;
     let over = climb(alloc, above.into_iter(), twigs, fresh, &mut rows)?;
