@@ -1,3 +1,4 @@
 pub mod Found
 pub mod Going
+pub mod Risen
 pub mod SortedOut

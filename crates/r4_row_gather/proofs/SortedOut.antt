@@ -20,6 +20,7 @@ module _ (cells : List CellSeen) (from to hi : ℕ) where
     go = sym (append-nil leaves);
     among = λ c at. absurd (none c at);
     first = λ out. refl;
+    clear = λ p at. absurd (none p at);
   }
 
   pub sorted_stays : (p : TwigPiece) (rest before kept : List TwigPiece) (leaves gone : List CellSeen)
@@ -33,6 +34,10 @@ module _ (cells : List CellSeen) (from to hi : ℕ) where
     go = s.go;
     among = s.among;
     first = λ way. refl;
+    clear = λ q at. elim (cases p q (staying rest s.fates) at) [
+      | inl is ↦ ap (is_in_way from to) is ∙ out
+      | inr more ↦ s.clear q more
+    ];
   }
     where
       other : (a b : Bool) → (a && b) ≡ false → a ≡ true → b ≡ false
@@ -53,6 +58,7 @@ module _ (cells : List CellSeen) (from to hi : ℕ) where
       | inr more ↦ s.among x more
     ];
     first = λ out. absurd (differ (is_in_way from to p) way out);
+    clear = s.clear;
   }
     where
       differ : (b : Bool) → b ≡ true → b ≡ false → ⊥

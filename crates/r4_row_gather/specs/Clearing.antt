@@ -71,13 +71,15 @@ pub record AreSortedOut (cells : List CellSeen) (from to hi : ℕ) (ps before ke
   pub go : gone ≡ leaves ++ going fates
   pub among : (c : CellSeen) → Contains (going fates) c → Contains cells c
   pub first : begins_in_way from to ps ≡ false → next_of hi (staying ps fates) ≡ next_of hi ps
+  pub clear : (p : TwigPiece) → Contains (staying ps fates) p → is_in_way from to p ≡ false
 
--- Of the pieces those go that point to leaves without items which begin in the range; these leaves go, and are among the
+-- Of the pieces those go that point to leaves which begin in the range. These leaves go, have no items and are among the
 -- cells. The first piece stays.
-pub record IsCleared (cells : List CellSeen) (hi : ℕ) (ps : List TwigPiece) (x : Clearing) : Type 0 where
+pub record IsCleared (cells : List CellSeen) (from to hi : ℕ) (ps : List TwigPiece) (x : Clearing) : Type 0 where
   pub fates : List Fate
   pub may : MayHave hi ps fates
   pub pieces : x.pieces.items ≡ staying ps fates
   pub gone : x.gone ≡ going fates
   pub among : (c : CellSeen) → Contains x.gone c → Contains cells c
   pub first : next_of hi (staying ps fates) ≡ next_of hi ps
+  pub clear : (p : TwigPiece) → Contains x.pieces.items p → is_in_way from to p ≡ false

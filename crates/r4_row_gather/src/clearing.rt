@@ -32,7 +32,7 @@ pub fn cleared(
     keys: &KeyRange,
 ) -> Result<Option<Clearing>, Memory>
     ensures { IfOk result (λ o. IfSome o (IsCleared (map (λ c. arc_value c) cells.now)
-        (rank hi) pieces.now)) }
+        (rank keys.now.from) (rank keys.now.to) (rank hi) pieces.now)) }
 {
     if begins_in_way(pieces, keys) {
         return Ok(None);

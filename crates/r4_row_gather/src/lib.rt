@@ -4,6 +4,8 @@
 
 mod clearing;
 mod finding;
+mod rising;
 
 pub use clearing::{Clearing, cleared};
 pub use finding::row_among;
+pub use rising::rows_over;
