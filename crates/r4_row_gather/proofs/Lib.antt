@@ -1,4 +1,6 @@
 pub mod Found
+pub mod Gathers
 pub mod Going
+pub mod PartsTogether
 pub mod Risen
 pub mod SortedOut

@@ -15,7 +15,7 @@ use std::sync::Arc;
 
 /// Pieces that stay, and the leaves that go to which others pointed.
 #[derive(Drop)]
-pub struct Clearing {
+pub(crate) struct Clearing {
     pub pieces: Vec<TwigPiece>,
     pub gone: Cells,
 }
@@ -24,7 +24,7 @@ pub struct Clearing {
 /// pieces go that point to such leaves and begin in the range. `None` where none does; and where one of these leaves is
 /// not among the cells, or has units, or the piece before the first one is none or points to a leaf, whose range would
 /// have to become longer. The only error is want of memory (docs/volume.md, "Bodies in extents").
-pub fn cleared(
+pub(crate) fn cleared(
     alloc: Global,
     cells: &[Arc<Cell>],
     pieces: &[TwigPiece],

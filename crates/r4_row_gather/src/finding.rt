@@ -13,7 +13,7 @@ use std::sync::Arc;
 
 /// The cells of a level, among some cells, that stand beside each other from the one that has a key up to one that ends
 /// at another key or behind it; `None` where one of them is not among these. The only error is want of memory.
-pub fn row_among(
+pub(crate) fn row_among(
     alloc: Global,
     cells: &[Arc<Cell>],
     level: u8,

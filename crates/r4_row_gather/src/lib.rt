@@ -4,8 +4,9 @@
 
 mod clearing;
 mod finding;
+mod gathering;
+mod parting;
+mod planning;
 mod rising;
 
-pub use clearing::{Clearing, cleared};
-pub use finding::row_among;
-pub use rising::rows_over;
+pub use gathering::{Gathered, gather};

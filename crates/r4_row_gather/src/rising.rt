@@ -24,7 +24,7 @@ const HIGHEST: u8 = 8;
 /// The rows above a row of twigs, the lowest first, up to one cell: each is of nodes among some cells that stand beside
 /// each other and point to the one before. `None` where one of them is not among the cells. The only error is want of
 /// memory (docs/volume.md, "Bodies in extents").
-pub fn rows_over(
+pub(crate) fn rows_over(
     alloc: Global,
     cells: &[Arc<Cell>],
     row: &[Arc<Cell>],
