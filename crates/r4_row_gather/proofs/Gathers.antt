@@ -1,33 +1,41 @@
 -- Twigs whose pieces are parted anew while leaves without items go are a change without effect.
 use Rattle.std.proofs.Common.{◌≡◌, ◌≢◌, ◌⊎◌, inl, inr, ℕ, suc, ◌<◌, ◌≤◌, false, List, [], ◌∷◌, ◌++◌, length, refl, sym, ap, subst}
 use Rattle.std.proofs.Common.{◌∙◌, arith}
-use Rattle.std.specs.Prelude.{◌↔◌, ◌==◌, Bool, Contains, None, Some}
+use Rattle.std.specs.Prelude.{◌↔◌, ◌==◌, ◌&&◌, if◌then◌else◌, not, nat_le, nat_lt, Bool, true, Contains, None, Option, Some}
+use Rattle.std.proofs.lemmas.Bool.{false≢true}
+use Rattle.std.proofs.lemmas.Bool.Decides.{nat_tests}
+use Rattle.std.proofs.lemmas.List.Kept.{AllPairs-filter}
 use Rattle.std.proofs.lemmas.List.Elements.{Contains-append_cases, Contains-append_left, Contains-append_right}
 use Rattle.std.proofs.lemmas.Option.{same_Some}
-use Rattle.r4_base.specs.Cell.{cell_of}
+use Rattle.r4_base.specs.Cell.{cell_of, units_in}
 use Rattle.r4_base.specs.Key.{rank}
 use Rattle.r4_base.specs.Node.{items_of}
 use Rattle.r4_base.specs.Tree.{IsNode, Name, Node, Root, Store}
 use Rattle.r4_base.specs.Value.{Value}
 use Rattle.r4_branch.specs.Pieces.{AreTwigPieces, Follow as PiecesFollow, names_of, next_of, piece_end, units_of}
+use Rattle.r4_branch.specs.declared.piece.TwigPart.{TwigPart}
+use Rattle.r4_branch.specs.declared.piece.TwigPart.TheVariants.{Pointer}
 use Rattle.r4_branch.specs.declared.piece.TwigPiece.{TwigPiece}
 use Rattle.r4_cell.specs.Patch.{HaveNames, IsChange}
 use Rattle.r4_cell.specs.Seen.{CellSeen, node_of}
 use Rattle.r4_cell.specs.declared.change.Change.{Change}
 use Rattle.r4_cell.specs.declared.change.Fresh.{Fresh}
+use Rattle.r4_graft.proofs.FoundPlaces.{find_pointer}
 use Rattle.r4_graft.proofs.Placed.{has_end}
-use Rattle.r4_patch.proofs.Members.{Distinct, cases, have_names, none}
+use Rattle.r4_patch.proofs.LeftOut.{among_contained}
+use Rattle.r4_patch.specs.Following.{is_among, without}
+use Rattle.r4_patch.proofs.Members.{Distinct, cases, distinct, distinct_append, have_names, here, later, none}
 use Rattle.r4_patch.specs.Effect.{Placed}
 use Rattle.r4_patch.specs.Joining.{ids_of}
 use Rattle.r4_path.proofs.Rising.{lo_is}
 use Rattle.r4_path.specs.Levels.{units_of_cells}
-use Rattle.r4_path.specs.Steps.{Follow, IsFree, IsNameOf}
+use Rattle.r4_path.specs.Steps.{Follow, IsFree, IsNameOf, root_pair}
 use Rattle.r4_rows.proofs.RowUnits.{in_units, of_units, same_bool}
 use Rattle.r4_rows.proofs.SlumPieces.{slum_pieces, twig_pieces}
 use Rattle.r4_rows.specs.Fewest.{joined}
 use Rattle.r4_rows.specs.Numbers.{HaveNumbersBelow}
 use Rattle.r4_rows.specs.Packed.{AreTheirPieces}
-use Rattle.r4_rows.specs.Rows.{AreNamedAfter, AreThere, Row}
+use Rattle.r4_rows.specs.Rows.{AreNamedAfter, AreThere, Row, news_in, olds_in}
 use Rattle.r4_rows.specs.Units.{TakeEffect, UnitOf}
 use Rattle.r4_squeeze.proofs.SqueezedSlums.{same_range}
 use Rattle.r4_work.specs.Working.{AreCellsIn}
@@ -35,10 +43,11 @@ use Rattle.r4_row_edit.proofs.Effects.{shift_change, shift_effect, shift_meets}
 use Rattle.r4_row_edit.proofs.Packed.{some_cells}
 use Rattle.r4_row_edit.proofs.Parted.{may_get}
 use Rattle.r4_row_edit.proofs.Shifts.{in_range}
+use Rattle.r4_row_edit.specs.Climbing.{AreFirst, RowsOver}
 use Rattle.r4_row_edit.specs.Parting.{CanPart, IsParted, MayPart}
-use Rattle.r4_row_edit.specs.Shifting.{HaveUnitsOf, IsShiftIn, PiecesTakeEffect}
+use Rattle.r4_row_edit.specs.Shifting.{HaveUnitsOf, IsShiftIn, IsShifted, PiecesTakeEffect}
 use Rattle.r4_row_gather.proofs.Going.{going_low, going_named, of_names, staying_follow, staying_units, to_names}
-use Rattle.r4_row_gather.specs.Clearing.{Fate, Goes, MayHave, Stays, going, staying}
+use Rattle.r4_row_gather.specs.Clearing.{Fate, Goes, MayHave, Stays, going, is_in_way, is_pointer, staying}
 use Rattle.r4_row_gather.specs.Finding.{IsRowFrom}
 use Rattle.r4_row_gather.specs.Gathering.{IsStill}
 use Rattle.r4_row_gather.specs.Parting.{AreParts}
@@ -48,7 +57,7 @@ use Rattle.r4_row_gather.specs.Rising.{AreRowsOver}
 
 -- a leaf without items has no units
 no_units : (level lo hi : ℕ) (b : List ℕ) → level ≡ 1 → items_of b ≡ [] → (cell_of level lo hi b).units ≡ []
-unfolding cell_of
+unfolding cell_of units_in
 no_units level lo hi b leaf empty = rw leaf (rw empty refl)
 
 going_empty : (hi : ℕ) (ps : List TwigPiece) (fs : List Fate) → MayHave hi ps fs → (c : CellSeen)
@@ -75,15 +84,86 @@ going_distinct t lo hi (p ∷ ps) (Stays ∷ fs) f may there = going_distinct t 
 going_distinct t lo hi (p ∷ ps) (Goes d ∷ fs) f may there = (
   (λ c at same.
     let (low, leaf) = going_low (piece_end p) hi ps fs f.2 may.1 c at in
-    let one = there d (Rattle.r4_patch.proofs.Members.here d (going fs)) in
-    let two = there c (Rattle.r4_patch.proofs.Members.later d c (going fs) at) in
+    let one = there d (here d (going fs)) in
+    let two = there c (later d c (going fs) at) in
     let nodes = same_Some (node_of d) (node_of c) (sym one ∙ (ap t same ∙ two)) in
     let los = sym (lo_is d) ∙ (ap (λ (x : Node Value). x.lo) nodes ∙ lo_is c) in
     let begin = may.0.begins in
     let end = has_end p f.1 in
     omega (arith, low, los, begin, end)),
-  going_distinct t (piece_end p) hi ps fs f.2 may.1 (λ c at. there c (Rattle.r4_patch.proofs.Members.later d c (going fs) at)),
+  going_distinct t (piece_end p) hi ps fs f.2 may.1 (λ c at. there c (later d c (going fs) at)),
 )
+
+-- ---- the levels of the rows above
+
+olds_above : (l : ℕ) (s : Row) (more : List Row) → RowsOver l s more → (c : CellSeen) → Contains (olds_in more) c
+    → suc l ≤ c.level
+olds_above l s [] over c at = absurd (none c at)
+olds_above l s (x ∷ more) (points, over) c at = elim (Contains-append_cases x.old (olds_in more) c at) [
+  | inl mine ↦ let is = (in_range (suc l) points.from points.to x.old c points.were mine).0 in omega (arith, is)
+  | inr rest ↦ let high = olds_above (suc l) x more over c rest in omega (arith, high)
+]
+
+news_above : (l : ℕ) (s : Row) (more : List Row) → RowsOver l s more → (c : CellSeen) → Contains (news_in more None) c
+    → suc l ≤ c.level
+news_above l s [] over c at = absurd (none c at)
+news_above l s (x ∷ more) (points, over) c at = elim (Contains-append_cases x.new (news_in more None) c at) [
+  | inl mine ↦ let is = (in_range (suc l) points.from points.to x.new c points.are mine).0 in omega (arith, is)
+  | inr rest ↦ let high = news_above (suc l) x more over c rest in omega (arith, high)
+]
+
+olds_first : (more : List Row) (rows : List (List CellSeen)) → AreFirst more rows → (c : CellSeen)
+    → Contains (olds_in more) c → (row : List CellSeen) × Contains rows row × Contains row c
+olds_first [] rows first c at = absurd (none c at)
+olds_first (x ∷ more) [] first c at = absurd first
+olds_first (x ∷ more) (row ∷ rows) (is, first) c at = elim (Contains-append_cases x.old (olds_in more) c at) [
+  | inl mine ↦ (row, here row rows, subst (λ xs. Contains xs c) is mine)
+  | inr rest ↦ let (r, m, there) = olds_first more rows first c rest in (r, later row r rows m, there)
+]
+
+no_root : (over : Option CellSeen) → root_pair over ≡ None → over ≡ None
+no_root None e = refl
+no_root (Some c) e = absurd cc
+
+-- ---- out of the way
+
+in_middle : {A : Type 0} (xs : List A) (y : A) (ys : List A) → Contains (xs ++ y ∷ ys) y
+in_middle [] y ys = here y ys
+in_middle (x ∷ xs) y ys = later x y (xs ++ y ∷ ys) (in_middle xs y ys)
+
+out_of_way : (from to key : ℕ) (p : TwigPiece) (id : ℕ) → p.part ≡ Pointer (record { 0 = id })
+    → rank p.key ≡ key → is_in_way from to p ≡ false → (key < from) ⊎ (to ≤ key)
+out_of_way from to key p id points at out = by_tests (nat_le from (rank p.key)) (nat_lt (rank p.key) to) refl refl
+    (subst (λ (t : TwigPart). (is_pointer t && (nat_le from (rank p.key) && nat_lt (rank p.key) to)) ≡ false) points out)
+  where
+    by_tests : (a b : Bool) → nat_le from (rank p.key) ≡ a → nat_lt (rank p.key) to ≡ b → (a && b) ≡ false
+        → (key < from) ⊎ (to ≤ key)
+    by_tests false b one two e = inl (grind (arith, nat_tests, one, at))
+    by_tests true false one two e = inr (grind (arith, nat_tests, two, at))
+    by_tests true true one two e = absurd cc
+
+-- ---- names of what stands
+
+not_among : (ids : List ℕ) (cells : List CellSeen) (x : CellSeen) → Contains (without ids cells) x
+    → Contains ids x.id → ⊥
+not_among ids [] x at there = none x at
+not_among ids (c ∷ cells) x at there = by_test (is_among ids c.id) refl at
+  where
+    by_test : (b : Bool) → is_among ids c.id ≡ b
+        → Contains (if not b then c ∷ without ids cells else without ids cells) x → ⊥
+    by_test true e m = not_among ids cells x m there
+    by_test false e m = elim (cases c x (without ids cells) m) [
+      | inl is ↦ false≢true (sym e ∙ among_contained ids c.id (subst (λ (y : CellSeen). Contains ids y.id) is there))
+      | inr more ↦ not_among ids cells x more there
+    ]
+
+pub standing_names : (cells old new : List CellSeen) → HaveNames cells → HaveNames new
+    → ((c : CellSeen) → Contains new c → Contains (ids_of old) c.id) → HaveNames (new ++ without (ids_of old) cells)
+standing_names cells old new names fresh numbers = have_names (new ++ without (ids_of old) cells)
+    (distinct_append new (without (ids_of old) cells) (distinct new fresh)
+    (distinct (without (ids_of old) cells) (AllPairs-filter (λ (c d : CellSeen). c.id ≢ d.id)
+    (λ (c : CellSeen). not (is_among (ids_of old) c.id)) cells names))
+    (λ x y mx my same. not_among (ids_of old) cells y my (subst (Contains (ids_of old)) same (numbers x mx))))
 
 -- ---- the change
 
@@ -126,6 +206,68 @@ module _ (cells row : List CellSeen) (begin hi : ℕ) (is : IsRowFrom cells 2 be
 
   abbrev low : Row
   low = record { old = going fates; new = [] }
+
+  -- ---- its cells
+
+  module _ (c : Change) (made : IsParted low row parts above c) where
+    shifted : IsShifted low row (joined parts) above no_fresh no_fresh c
+    shifted = (made.shifted no_fresh (omega arith)).0
+
+    over_none : shifted.over ≡ None
+    over_none = no_root shifted.over (sym shifted.root ∙ made.root)
+
+    old_cases : (x : CellSeen) → Contains c.old x
+        → Contains (going fates) x ⊎ (Contains row x ⊎ Contains (olds_in shifted.more) x)
+    old_cases x at = elim (Contains-append_cases (going fates) (row ++ olds_in shifted.more) x
+        (subst (λ cs. Contains cs x) shifted.old at)) [
+      | inl gone ↦ inl gone
+      | inr rest ↦ inr (Contains-append_cases row (olds_in shifted.more) x rest)
+    ]
+
+    pub old_among : (x : CellSeen) → Contains c.old x → Contains cells x
+    old_among x at = elim (old_cases x at) [
+      | inl gone ↦ among x gone
+      | inr (inl mine) ↦ is.among x mine
+      | inr (inr high) ↦
+          let (cs, m, there) = olds_first shifted.more above shifted.climbed.olds x high in over.among cs m x there
+    ]
+
+    pub new_numbers : (x : CellSeen) → Contains c.new x → Contains (ids_of c.old) x.id
+    new_numbers x at = elim (made.numbers x at) [
+      | inl below ↦ absurd (none x below)
+      | inr old ↦ old
+    ]
+
+    new_twig : (x : CellSeen) → Contains c.new x → x.level ≡ 2 → Contains shifted.cells x
+    new_twig x at two = elim (Contains-append_cases shifted.cells (news_in shifted.more shifted.over) x
+        (subst (λ cs. Contains cs x) shifted.new at)) [
+      | inl mine ↦ mine
+      | inr high ↦
+          let up = news_above 2 (record { old = row; new = shifted.cells }) shifted.more shifted.climbed.points x
+          (subst (λ o. Contains (news_in shifted.more o) x) over_none high) in
+          absurd (omega (arith, up, two))
+    ]
+
+    gone_leaf : (x : CellSeen) → Contains c.old x → x.level ≡ 1 → Contains (going fates) x
+    gone_leaf x at leaf = elim (old_cases x at) [
+      | inl gone ↦ gone
+      | inr (inl mine) ↦
+          let two = (in_range 2 is.lo hi row x is.along mine).0 in absurd (omega (arith, two, leaf))
+      | inr (inr high) ↦
+          let up = olds_above 2 (record { old = row; new = shifted.cells }) shifted.more shifted.climbed.points x high in
+          absurd (omega (arith, up, leaf))
+    ]
+
+    pub way : (from to : ℕ) → ((x : CellSeen) → Contains (going fates) x → (p : TwigPiece)
+        → Contains (staying (joined each) fates) p → is_in_way from to p ≡ false)
+        → (x : CellSeen) → Contains c.old x → x.level ≡ 1 → (d : CellSeen) → Contains c.new d → d.level ≡ 2
+        → (n : Name) → Contains (node_of d).names n → n.level ≡ 1 → (n.lo < from) ⊎ (to ≤ n.lo)
+    way from to clear x at leaf d new two n named low =
+        let naming = (shifted.twigs.twigs.has.names n).0 (d, new_twig d new two, named) in
+        let f = find_pointer is.lo hi shifted.twigs.to (staying (joined each) fates) n left.follow
+        (subst (λ ps. Contains (names_of shifted.twigs.to ps) n) are.are naming) low in
+        out_of_way from to n.lo f.piece n.id f.part f.key (clear x (gone_leaf x at leaf) f.piece
+        (subst (λ ps. Contains ps f.piece) (sym f.is) (in_middle f.before f.piece f.behind)))
 
   -- ---- in a part of a tree
 

@@ -5,8 +5,7 @@ ghost use Rattle.std.specs.Arc.{arc_value};
 ghost use Rattle.r4_base.specs.Key.{rank};
 ghost use Rattle.r4_patch.specs.Following.{without};
 ghost use Rattle.r4_patch.specs.Joining.{ids_of};
-ghost use Rattle.r4_row_gather.specs.Gathering.{HasTwigOf, IsGathered};
-ghost use Rattle.r4_row_gather.specs.Planning.{IsPlanOf};
+ghost use Rattle.r4_row_gather.specs.Gathering.{HasTwigOf, IsGathered, is_twig_of};
 
 use crate::planning::{Plan, planned};
 use crate::rising::rows_over;

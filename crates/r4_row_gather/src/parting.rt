@@ -1,22 +1,15 @@
 //! Pieces parted so that all that have certain keys come below one twig (docs/volume.md, "Bodies in extents").
 
 ghost use Rattle.std.specs.Prelude.{◌≡◌, ◌≤◌, IfOk, IfSome, length, map, true};
-ghost use Rattle.r4_branch.specs.Pieces.{twig_bytes};
 ghost use Rattle.r4_row_gather.specs.Parting.{AreParts, HavePiecesToo};
 
 use r4_base::Memory;
+use r4_twig_asks::twig_bytes;
 use r4_work::{KeyRange, TwigPiece, place_of};
 use std::alloc::Global;
 
 /// So many bytes of items and headers a twig has room for.
 const ROOM: u64 = 4068;
-
-// TEMP
-fn twig_bytes(pieces: &[TwigPiece]) -> u64
-    ensures { result ≡ twig_bytes pieces.now }
-{
-    0
-}
 
 /// Pieces in parts, so many at most, each with room in a twig: all that have keys of a range are in one of them. The
 /// pieces before and behind the range stand with them, where there is room, or else in parts of their own. `None` where

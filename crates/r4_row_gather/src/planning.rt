@@ -3,7 +3,6 @@
 ghost use Rattle.std.specs.Prelude.{◌≡◌, ◌≤◌, IfOk, IfSome, map};
 ghost use Rattle.std.specs.Arc.{arc_value};
 ghost use Rattle.r4_base.specs.Key.{rank};
-ghost use Rattle.r4_row_gather.specs.Finding.{IsRowAmong};
 ghost use Rattle.r4_row_gather.specs.Planning.{IsPlanOf};
 
 use crate::clearing::{Clearing, cleared};
