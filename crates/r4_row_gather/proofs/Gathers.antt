@@ -1,22 +1,22 @@
 -- Twigs whose pieces are parted anew while leaves without items go are a change without effect.
 use Rattle.std.proofs.Common.{◌≡◌, ◌≢◌, ◌⊎◌, inl, inr, ℕ, suc, ◌<◌, ◌≤◌, false, List, [], ◌∷◌, ◌++◌, length, refl, sym, ap, subst}
 use Rattle.std.proofs.Common.{◌∙◌, arith}
-use Rattle.std.specs.Prelude.{◌↔◌, ◌==◌, ◌&&◌, if◌then◌else◌, not, nat_le, nat_lt, Bool, true, Contains, None, Option, Some}
+use Rattle.std.specs.Prelude.{◌↔◌, ◌&&◌, if◌then◌else◌, not, nat_le, nat_lt, Bool, true, Contains, None, Option, Some}
 use Rattle.std.proofs.lemmas.Bool.{false≢true}
 use Rattle.std.proofs.lemmas.Bool.Decides.{nat_tests}
 use Rattle.std.proofs.lemmas.List.Kept.{AllPairs-filter}
-use Rattle.std.proofs.lemmas.List.Elements.{Contains-append_cases, Contains-append_left, Contains-append_right}
+use Rattle.std.proofs.lemmas.List.Elements.{Contains-append_cases, Contains-append_right}
 use Rattle.std.proofs.lemmas.Option.{same_Some}
 use Rattle.r4_base.specs.Cell.{cell_of, units_in}
 use Rattle.r4_base.specs.Key.{rank}
 use Rattle.r4_base.specs.Node.{items_of}
-use Rattle.r4_base.specs.Tree.{IsNode, Name, Node, Root, Store}
+use Rattle.r4_base.specs.Tree.{Name, Node, Root, Store}
 use Rattle.r4_base.specs.Value.{Value}
 use Rattle.r4_branch.specs.Pieces.{AreTwigPieces, Follow as PiecesFollow, names_of, next_of, piece_end, units_of}
 use Rattle.r4_branch.specs.declared.piece.TwigPart.{TwigPart}
 use Rattle.r4_branch.specs.declared.piece.TwigPart.TheVariants.{Pointer}
 use Rattle.r4_branch.specs.declared.piece.TwigPiece.{TwigPiece}
-use Rattle.r4_cell.specs.Patch.{HaveNames, IsChange}
+use Rattle.r4_cell.specs.Patch.{HaveNames}
 use Rattle.r4_cell.specs.Seen.{CellSeen, node_of}
 use Rattle.r4_cell.specs.declared.change.Change.{Change}
 use Rattle.r4_cell.specs.declared.change.Fresh.{Fresh}
@@ -29,14 +29,13 @@ use Rattle.r4_patch.specs.Effect.{Placed}
 use Rattle.r4_patch.specs.Joining.{ids_of}
 use Rattle.r4_path.proofs.Rising.{lo_is}
 use Rattle.r4_path.specs.Levels.{units_of_cells}
-use Rattle.r4_path.specs.Steps.{Follow, IsFree, IsNameOf, root_pair}
+use Rattle.r4_path.specs.Steps.{root_pair}
 use Rattle.r4_rows.proofs.RowUnits.{in_units, of_units, same_bool}
 use Rattle.r4_rows.proofs.SlumPieces.{slum_pieces, twig_pieces}
 use Rattle.r4_rows.specs.Fewest.{joined}
-use Rattle.r4_rows.specs.Numbers.{HaveNumbersBelow}
 use Rattle.r4_rows.specs.Packed.{AreTheirPieces}
 use Rattle.r4_rows.specs.Rows.{AreNamedAfter, AreThere, Row, news_in, olds_in}
-use Rattle.r4_rows.specs.Units.{TakeEffect, UnitOf}
+use Rattle.r4_rows.specs.Units.{UnitOf}
 use Rattle.r4_squeeze.proofs.SqueezedSlums.{same_range}
 use Rattle.r4_work.specs.Working.{AreCellsIn}
 use Rattle.r4_row_edit.proofs.Effects.{shift_change, shift_effect, shift_meets}
@@ -45,7 +44,7 @@ use Rattle.r4_row_edit.proofs.Parted.{may_get}
 use Rattle.r4_row_edit.proofs.Shifts.{in_range}
 use Rattle.r4_row_edit.specs.Climbing.{AreFirst, RowsOver}
 use Rattle.r4_row_edit.specs.Parting.{CanPart, IsParted, MayPart}
-use Rattle.r4_row_edit.specs.Shifting.{HaveUnitsOf, IsShiftIn, IsShifted, PiecesTakeEffect}
+use Rattle.r4_row_edit.specs.Shifting.{IsShiftIn, IsShifted, PiecesTakeEffect}
 use Rattle.r4_row_gather.proofs.Going.{going_low, going_named, of_names, staying_follow, staying_units, to_names}
 use Rattle.r4_row_gather.specs.Clearing.{Fate, Goes, MayHave, Stays, going, is_in_way, is_pointer, staying}
 use Rattle.r4_row_gather.specs.Finding.{IsRowFrom}
@@ -147,14 +146,15 @@ out_of_way from to key p id points at out = by_tests (nat_le from (rank p.key)) 
 not_among : (ids : List ℕ) (cells : List CellSeen) (x : CellSeen) → Contains (without ids cells) x
     → Contains ids x.id → ⊥
 not_among ids [] x at there = none x at
-not_among ids (c ∷ cells) x at there = by_test (is_among ids c.id) refl at
+not_among ids (c ∷ cells) x at there =
+    by_test (is_among ids c.id) refl (λ m. not_among ids cells x m there) at
   where
-    by_test : (b : Bool) → is_among ids c.id ≡ b
+    by_test : (b : Bool) → is_among ids c.id ≡ b → (Contains (without ids cells) x → ⊥)
         → Contains (if not b then c ∷ without ids cells else without ids cells) x → ⊥
-    by_test true e m = not_among ids cells x m there
-    by_test false e m = elim (cases c x (without ids cells) m) [
+    by_test true e rest m = rest m
+    by_test false e rest m = elim (cases c x (without ids cells) m) [
       | inl is ↦ false≢true (sym e ∙ among_contained ids c.id (subst (λ (y : CellSeen). Contains ids y.id) is there))
-      | inr more ↦ not_among ids cells x more there
+      | inr more ↦ rest more
     ]
 
 pub standing_names : (cells old new : List CellSeen) → HaveNames cells → HaveNames new

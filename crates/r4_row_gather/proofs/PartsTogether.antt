@@ -1,11 +1,10 @@
 -- Parts, one more at a time.
-use Rattle.std.proofs.Common.{◌≡◌, ℕ, ◌≤◌, List, [], ◌∷◌, ◌++◌, length, refl, sym, ap, subst, ◌∙◌, arith}
-use Rattle.std.specs.Prelude.{All}
+use Rattle.std.proofs.Common.{◌≡◌, ◌≤◌, List, [], ◌∷◌, ◌++◌, length, refl, sym, ap, ◌∙◌, arith}
 use Rattle.std.proofs.lemmas.List.{append-nil}
 use Rattle.std.proofs.lemmas.List.Elements.{All-append, All-cons, All-nil}
 use Rattle.r4_branch.specs.Pieces.{twig_bytes}
 use Rattle.r4_branch.specs.declared.piece.TwigPiece.{TwigPiece}
-use Rattle.r4_rows.specs.Fewest.{EachFits, joined}
+use Rattle.r4_rows.specs.Fewest.{EachFits}
 use Rattle.r4_squeeze.proofs.Cells.{joined_more}
 use Rattle.r4_row_gather.specs.Parting.{AreParts, HavePiecesToo}
 

@@ -1,6 +1,7 @@
 -- What twigs get by a plan is a change that gathers.
-use Rattle.std.proofs.Common.{◌≡◌, ◌∙◌, ℕ, suc, ◌≤◌, List, [], ◌∷◌, ◌++◌, length, map, refl, sym, ap, subst, arith}
+use Rattle.std.proofs.Common.{◌≡◌, ℕ, ◌≤◌, List, [], ◌++◌, length, map, sym, subst, arith}
 use Rattle.std.specs.Prelude.{Contains}
+use Rattle.std.proofs.lemmas.List.{length-map}
 use Rattle.r4_branch.specs.declared.piece.TwigPiece.{TwigPiece}
 use Rattle.r4_base.specs.Tree.{Root, Store}
 use Rattle.r4_base.specs.Value.{Value}
@@ -10,7 +11,6 @@ use Rattle.r4_cell.specs.declared.change.Change.{Change}
 use Rattle.r4_cell.specs.declared.change.Fresh.{Fresh}
 use Rattle.r4_patch.specs.Following.{without}
 use Rattle.r4_patch.specs.Joining.{ids_of}
-use Rattle.r4_rows.specs.Rows.{Row}
 use Rattle.r4_work.specs.Working.{AreCellsIn}
 use Rattle.r4_row_edit.specs.Parting.{CanPart, IsParted}
 use Rattle.r4_row_gather.proofs.Gathers.{can_part, new_numbers, old_among, standing_names, still, way}
@@ -19,10 +19,6 @@ use Rattle.r4_row_gather.specs.Gathering.{HasTwigOf, IsGathered}
 use Rattle.r4_row_gather.specs.Planning.{IsPlanOf}
 use Rattle.r4_row_gather.specs.Rising.{AreRowsOver}
 use Rattle.r4_row_gather.specs.declared.planning.Plan.{Plan}
-
-long_map : {A B : Type 0} (f : A → B) (xs : List A) → length (map f xs) ≡ length xs
-long_map f [] = refl
-long_map f (x ∷ xs) = ap suc (long_map f xs)
 
 module _ (cells : List CellSeen) (from to : ℕ) (x : Plan) (plan : IsPlanOf cells from to x)
     (above : List (List CellSeen)) (over : AreRowsOver cells 2 x.row above) where
@@ -33,7 +29,7 @@ module _ (cells : List CellSeen) (from to : ℕ) (x : Plan) (plan : IsPlanOf cel
   leave c at = plan.among c (subst (λ cs. Contains cs c) (sym plan.gone) at)
 
   few : length parts ≤ length x.row
-  few = let long = long_map (λ v. v.items) x.parts.items in let less = plan.few in omega (arith, long, less)
+  few = let long = length-map x.parts.items (λ v. v.items) in let less = plan.few in omega (arith, long, less)
 
   pub plan_can_part : CanPart x.row parts above
   plan_can_part = can_part cells x.row plan.begin plan.hi plan.row plan.each plan.pieces plan.fates plan.may plan.first

@@ -1,22 +1,19 @@
 -- Rows over rows.
-use Rattle.std.proofs.Common.{◌≡◌, inl, inr, ℕ, suc, ◌^◌, ◌<◌, ◌≤◌, List, [], ◌∷◌, ◌++◌, length, refl, sym, ap, subst, ◌∙◌, arith}
-use Rattle.std.specs.Prelude.{All, Contains, Some, true}
+use Rattle.std.proofs.Common.{◌≡◌, inl, inr, ℕ, suc, ◌^◌, List, [], ◌∷◌, ◌++◌, length, refl, sym, ap, subst, ◌∙◌, arith}
+use Rattle.std.specs.Prelude.{All, Contains, true}
 use Rattle.std.proofs.lemmas.List.Elements.{All-cons, All-nil}
 use Rattle.r4_base.specs.Cell.{names_block, next_key}
-use Rattle.r4_base.specs.Key.{rank}
 use Rattle.r4_base.specs.Node.{Item}
 use Rattle.r4_cell.specs.Seen.{CellSeen}
 use Rattle.r4_patch.proofs.Members.{cases, none}
 use Rattle.r4_path.specs.Nodes.{IsPointable}
 use Rattle.r4_path.specs.Sharing.{IsSound, items_of_cells}
-use Rattle.r4_path.specs.Steps.{Follow}
 use Rattle.r4_rows.specs.Pointers.{PointTo}
 use Rattle.r4_squeeze.proofs.Cells.{cells_pointers}
 use Rattle.r4_squeeze.proofs.Rewriting.{accepted_pointer, pointer_long}
 use Rattle.r4_squeeze.specs.Items.{Stand}
-use Rattle.r4_row_edit.specs.Climbing.{IsHighest, StandUp}
 use Rattle.r4_row_edit.specs.Over.{StandsOver}
-use Rattle.r4_row_gather.specs.Rising.{AreRowsOver, IsRowAbove, MayStandOver, PointFirst, PointsTo, StandBeside}
+use Rattle.r4_row_gather.specs.Rising.{AreRowsOver, IsRowAbove, MayStandOver, PointFirst, StandBeside}
 
 -- ---- a row over one
 

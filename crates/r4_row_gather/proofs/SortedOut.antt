@@ -1,14 +1,13 @@
 -- Pieces that stay and leaves that go, one piece after the other.
 use Rattle.std.proofs.Common.{◌≡◌, inl, inr, ℕ, true, false, List, [], ◌∷◌, ◌++◌, refl, sym, ap, subst}
-use Rattle.std.proofs.Common.{◌∙◌, arith}
+use Rattle.std.proofs.Common.{◌∙◌}
 use Rattle.std.specs.Prelude.{Bool, Contains, ◌&&◌}
 use Rattle.std.proofs.lemmas.List.{append-nil, append_assoc}
-use Rattle.r4_base.specs.Key.{rank}
 use Rattle.r4_branch.specs.Pieces.{next_of}
 use Rattle.r4_branch.specs.declared.piece.TwigPiece.{TwigPiece}
 use Rattle.r4_cell.specs.Seen.{CellSeen}
 use Rattle.r4_patch.proofs.Members.{cases, none}
-use Rattle.r4_row_gather.specs.Clearing.{AreSortedOut, Fate, Goes, IsEmptied, MayHave, Stays, begins_in_way, going, is_in_way, is_pointer, staying}
+use Rattle.r4_row_gather.specs.Clearing.{AreSortedOut, Goes, IsEmptied, Stays, begins_in_way, going, is_in_way, is_pointer, staying}
 
 module _ (cells : List CellSeen) (from to hi : ℕ) where
   pub sorted_none : (before : List TwigPiece) (leaves : List CellSeen)

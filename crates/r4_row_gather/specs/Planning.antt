@@ -1,5 +1,5 @@
 -- Which pieces twigs beside each other get (docs/volume.md, "Bodies in extents"). A key is its rank.
-use Rattle.std.specs.Prelude.{◌≡◌, ℕ, ◌≤◌, List, [], ◌∷◌, map, length, Contains, false}
+use Rattle.std.specs.Prelude.{◌≡◌, ℕ, ◌≤◌, List, map, length, Contains, false}
 use Rattle.r4_branch.specs.Pieces.{next_of}
 use Rattle.r4_branch.specs.declared.piece.TwigPiece.{TwigPiece}
 use Rattle.r4_cell.specs.Seen.{CellSeen}

@@ -3,7 +3,6 @@ use Rattle.std.specs.Arc.{arc_value}
 use Rattle.std.proofs.lemmas.List.{map-append}
 use Rattle.std.proofs.lemmas.Result.{IfOk-weaker}
 use Rattle.r4_base.specs.Key.{rank}
-use Rattle.r4_branch.specs.Pieces.{next_of}
 use Rattle.r4_row_gather.specs.Clearing.{AreSortedOut, IsEmptied, is_in_way}
 use Rattle.r4_row_gather.proofs.SortedOut.{sorted_goes, sorted_stays}
 use Rattle.r4_row_gather.proofs.clearing.+sort_out.Goals as goal

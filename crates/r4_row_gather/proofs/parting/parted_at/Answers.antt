@@ -1,4 +1,4 @@
-use Rattle.std.proofs.Common.{◌≡◌, ◌-◌, ◌∙◌, ◌++◌, [], ap, drop, map, rules, subst, sym, take, true}
+use Rattle.std.proofs.Common.{◌≡◌, ◌-◌, ◌∙◌, ◌++◌, [], ap, map, rules, subst, sym, take, true}
 use Rattle.std.proofs.lemmas.List.{append_assoc, take-append-drop}
 use Rattle.r4_row_gather.proofs.PartsTogether.{no_parts}
 use Rattle.r4_row_gather.specs.Parting.{AreParts}
