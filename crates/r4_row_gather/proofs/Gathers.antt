@@ -37,7 +37,6 @@ use Rattle.r4_rows.specs.Packed.{AreTheirPieces}
 use Rattle.r4_rows.specs.Rows.{AreNamedAfter, AreThere, Row, news_in, olds_in}
 use Rattle.r4_rows.specs.Units.{UnitOf}
 use Rattle.r4_squeeze.proofs.SqueezedSlums.{same_range}
-use Rattle.r4_work.specs.Working.{AreCellsIn}
 use Rattle.r4_row_edit.proofs.Effects.{shift_change, shift_effect, shift_meets}
 use Rattle.r4_row_edit.proofs.Packed.{some_cells}
 use Rattle.r4_row_edit.proofs.Parted.{may_get}
@@ -48,7 +47,7 @@ use Rattle.r4_row_edit.specs.Shifting.{IsShiftIn, IsShifted, PiecesTakeEffect}
 use Rattle.r4_row_gather.proofs.Going.{going_low, going_named, of_names, staying_follow, staying_units, to_names}
 use Rattle.r4_row_gather.specs.Clearing.{Fate, Goes, MayHave, Stays, going, is_in_way, is_pointer, staying}
 use Rattle.r4_row_gather.specs.Finding.{IsRowFrom}
-use Rattle.r4_row_gather.specs.Gathering.{IsStill}
+use Rattle.r4_row_gather.specs.Gathering.{IsStill, StandIn}
 use Rattle.r4_row_gather.specs.Parting.{AreParts}
 use Rattle.r4_row_gather.specs.Rising.{AreRowsOver}
 
@@ -271,7 +270,7 @@ module _ (cells row : List CellSeen) (begin hi : ℕ) (is : IsRowFrom cells 2 be
 
   -- ---- in a part of a tree
 
-  module _ (t : Store Value) (r : Root) (f : Fresh) (within : AreCellsIn t r f cells) where
+  module _ (t : Store Value) (r : Root) (within : StandIn t r cells) where
     gone_there : AreThere t (going fates)
     gone_there c at = within.stand c (among c at)
 

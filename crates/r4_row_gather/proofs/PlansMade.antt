@@ -8,14 +8,12 @@ use Rattle.r4_base.specs.Value.{Value}
 use Rattle.r4_cell.specs.Patch.{HaveNames}
 use Rattle.r4_cell.specs.Seen.{CellSeen}
 use Rattle.r4_cell.specs.declared.change.Change.{Change}
-use Rattle.r4_cell.specs.declared.change.Fresh.{Fresh}
 use Rattle.r4_patch.specs.Following.{without}
 use Rattle.r4_patch.specs.Joining.{ids_of}
-use Rattle.r4_work.specs.Working.{AreCellsIn}
 use Rattle.r4_row_edit.specs.Parting.{CanPart, IsParted}
 use Rattle.r4_row_gather.proofs.Gathers.{can_part, new_numbers, old_among, standing_names, still, way}
 use Rattle.r4_row_gather.specs.Clearing.{going}
-use Rattle.r4_row_gather.specs.Gathering.{HasTwigOf, IsGathered}
+use Rattle.r4_row_gather.specs.Gathering.{HasTwigOf, IsGathered, StandIn}
 use Rattle.r4_row_gather.specs.Planning.{IsPlanOf}
 use Rattle.r4_row_gather.specs.Rising.{AreRowsOver}
 use Rattle.r4_row_gather.specs.declared.planning.Plan.{Plan}
@@ -42,8 +40,8 @@ module _ (cells : List CellSeen) (from to : ℕ) (x : Plan) (plan : IsPlanOf cel
       let made = subst (λ gone. IsParted (record { old = gone; new = [] }) x.row parts above c) plan.gone parted in
       let numbers = new_numbers cells x.row plan.begin plan.hi plan.row plan.each plan.pieces plan.fates plan.may plan.first
       leave parts plan.parts few above over c made in
-      let stays = λ (t : Store Value) (r : Root) (f : Fresh) (within : AreCellsIn t r f cells). still cells x.row plan.begin plan.hi plan.row plan.each plan.pieces plan.fates plan.may
-      plan.first leave parts plan.parts few above over t r f within c made in
+      let stays = λ (t : Store Value) (r : Root) (within : StandIn t r cells). still cells x.row plan.begin plan.hi plan.row plan.each plan.pieces plan.fates plan.may
+      plan.first leave parts plan.parts few above over t r within c made in
       record {
         still = stays;
         root = made.root;
@@ -51,8 +49,8 @@ module _ (cells : List CellSeen) (from to : ℕ) (x : Plan) (plan : IsPlanOf cel
             leave parts plan.parts few above over c made;
         new = numbers;
         stand = stand;
-        names = λ t r f within names. subst HaveNames (sym stand)
-            (standing_names cells c.old c.new names (stays t r f within).change.new_names numbers);
+        names = λ t r within names. subst HaveNames (sym stand)
+            (standing_names cells c.old c.new names (stays t r within).change.new_names numbers);
         below = twig;
         way = way cells x.row plan.begin plan.hi plan.row plan.each plan.pieces plan.fates plan.may plan.first
             leave parts plan.parts few above over c made from to

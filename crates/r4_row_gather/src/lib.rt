@@ -10,3 +10,6 @@ mod planning;
 mod rising;
 
 pub use gathering::{Gathered, gather};
+
+// what crates above name by way of this one
+pub use r4_patch::follow;
