@@ -108,4 +108,3 @@ one_more_above cells level low row rows is over = record {
     | inr more ↦ over.among r more
   ];
 }
-

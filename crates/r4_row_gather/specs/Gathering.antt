@@ -1,5 +1,7 @@
--- A change that brings what has keys of a range below one twig (docs/volume.md, "Bodies in extents"). A key is its rank.
-use Rattle.std.specs.Prelude.{◌≡◌, ◌⊎◌, ℕ, ◌<◌, ◌≤◌, ◌==◌, ◌&&◌, nat_le, Bool, false, List, ◌++◌, Contains, None}
+-- A change that brings what has keys of a range below one twig (docs/volume.md, "Bodies in
+-- extents"). A key is its rank.
+use Rattle.std.specs.Prelude.{◌≡◌, ◌⊎◌, ℕ, ◌<◌, ◌≤◌, ◌==◌, ◌&&◌, nat_le, Bool, false, List, ◌++◌}
+use Rattle.std.specs.Prelude.{Contains, None}
 use Rattle.r4_base.specs.Key.{rank}
 use Rattle.r4_base.specs.Tree.{Name, Root, Store}
 use Rattle.r4_base.specs.Value.{Value}
@@ -14,7 +16,8 @@ use Rattle.r4_patch.specs.Part.{MeetsPart}
 use Rattle.r4_work.specs.Working.{AreCellsIn}
 use Rattle.r4_row_gather.specs.declared.gathering.Gathered.{Gathered}
 
--- The change is one that this part of a tree meets, and no unit changes or comes to stand in another kind of cell.
+-- The change is one that this part of a tree meets, and no unit changes or comes to stand in
+-- another kind of cell.
 pub record IsStill (t : Store Value) (r : Root) (c : Change) : Type 0 where
   pub change : IsChange c.old c.new c.root
   pub meets : MeetsPart (patch_of_change c) t r
@@ -32,15 +35,18 @@ pub record HasTwigOf (cells : List CellSeen) (from to : ℕ) : Type 0 where
   pub begins : rank twig.lo ≤ from
   pub ends : to ≤ rank twig.hi
 
--- Of some cells of a part of a tree come others, with numbers of theirs: all keys of the range are below one twig that
--- comes. Where leaves go for that, no leaf begins in the range that a new twig names.
+-- Of some cells of a part of a tree come others, with numbers of theirs: all keys of the range are
+-- below one twig that comes. Where leaves go for that, no leaf begins in the range that a new twig
+-- names.
 pub record IsGathered (cells : List CellSeen) (from to : ℕ) (g : Gathered) : Type 0 where
-  pub still : (t : Store Value) (r : Root) (f : Fresh) → AreCellsIn t r f cells → IsStill t r g.change
+  pub still : (t : Store Value) (r : Root) (f : Fresh) → AreCellsIn t r f cells
+      → IsStill t r g.change
   pub root : g.change.root ≡ None
   pub old : (c : CellSeen) → Contains g.change.old c → Contains cells c
   pub new : (c : CellSeen) → Contains g.change.new c → Contains (ids_of g.change.old) c.id
   pub stand : g.cells ≡ g.change.new ++ without (ids_of g.change.old) cells
-  pub names : (t : Store Value) (r : Root) (f : Fresh) → AreCellsIn t r f cells → HaveNames cells → HaveNames g.cells
+  pub names : (t : Store Value) (r : Root) (f : Fresh) → AreCellsIn t r f cells → HaveNames cells
+      → HaveNames g.cells
   pub below : HasTwigOf g.change.new from to
   pub way : (c : CellSeen) → Contains g.change.old c → c.level ≡ 1 → (d : CellSeen)
       → Contains g.change.new d → d.level ≡ 2 → (n : Name) → Contains (node_of d).names n

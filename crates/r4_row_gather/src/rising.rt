@@ -93,7 +93,8 @@ fn row_above(
 fn stand_over(alloc: Global, row: &[Arc<Cell>], low: &[Arc<Cell>]) -> Result<bool, Memory>
     requires { (l : ℕ) × MayStandOver l (map (λ c. arc_value c) low.now)
         (map (λ c. arc_value c) row.now) }
-    ensures { IfOk result (λ ok. ok ≡ true → (l : ℕ) → MayStandOver l (map (λ c. arc_value c) low.now)
+    ensures { IfOk result (λ ok. ok ≡ true → (l : ℕ)
+        → MayStandOver l (map (λ c. arc_value c) low.now)
         (map (λ c. arc_value c) row.now) → StandsOver l (map (λ c. arc_value c) low.now)
         (map (λ c. arc_value c) row.now)) }
 {
