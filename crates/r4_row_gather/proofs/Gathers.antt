@@ -9,23 +9,23 @@ use Rattle.std.proofs.lemmas.List.Elements.{Contains-append_cases, Contains-appe
 use Rattle.r4_base.specs.Key.{rank}
 use Rattle.r4_base.specs.Tree.{IsNode, Name, Root, Store}
 use Rattle.r4_base.specs.Value.{Value}
-use Rattle.r4_branch.specs.Pieces.{AreTwigPieces, names_of, next_of, units_of}
-use Rattle.r4_branch.specs.declared.piece.TwigPart.{TwigPart}
-use Rattle.r4_branch.specs.declared.piece.TwigPart.TheVariants.{Pointer}
-use Rattle.r4_branch.specs.declared.piece.TwigPiece.{TwigPiece}
-use Rattle.r4_cell.specs.Patch.{HaveNames}
-use Rattle.r4_cell.specs.Seen.{CellSeen, node_of}
-use Rattle.r4_cell.specs.declared.change.Change.{Change}
-use Rattle.r4_cell.specs.declared.change.Fresh.{Fresh}
-use Rattle.r4_graft.proofs.FoundPlaces.{find_pointer}
-use Rattle.r4_patch.proofs.LeftOut.{among_contained}
-use Rattle.r4_patch.specs.Following.{is_among, without}
-use Rattle.r4_patch.proofs.Members.{Distinct, cases, distinct, distinct_append, have_names, here, later, none}
-use Rattle.r4_patch.specs.Effect.{Placed}
-use Rattle.r4_patch.specs.Joining.{ids_of}
-use Rattle.r4_path.proofs.Rising.{id_member}
-use Rattle.r4_path.specs.Levels.{units_of_cells}
-use Rattle.r4_path.specs.Steps.{root_pair}
+use Rattle.r4_work.specs.r4_branch.Pieces.{AreTwigPieces, names_of, next_of, units_of}
+use Rattle.r4_work.specs.r4_branch.declared.piece.TwigPart.{TwigPart}
+use Rattle.r4_work.specs.r4_branch.declared.piece.TwigPart.TheVariants.{Pointer}
+use Rattle.r4_work.specs.r4_branch.declared.piece.TwigPiece.{TwigPiece}
+use Rattle.r4_work.specs.r4_cell.Patch.{HaveNames}
+use Rattle.r4_work.specs.r4_cell.Seen.{CellSeen, node_of}
+use Rattle.r4_work.specs.r4_cell.declared.change.Change.{Change}
+use Rattle.r4_work.specs.r4_cell.declared.change.Fresh.{Fresh}
+use Rattle.r4_work.proofs.r4_graft.FoundPlaces.{find_pointer}
+use Rattle.r4_work.proofs.r4_patch.LeftOut.{among_contained}
+use Rattle.r4_work.specs.r4_patch.Following.{is_among, without}
+use Rattle.r4_work.proofs.r4_patch.Members.{Distinct, cases, distinct, distinct_append, have_names, here, later, none}
+use Rattle.r4_work.specs.r4_patch.Effect.{Placed}
+use Rattle.r4_work.specs.r4_patch.Joining.{ids_of}
+use Rattle.r4_work.proofs.r4_path.Rising.{id_member}
+use Rattle.r4_work.specs.r4_path.Levels.{units_of_cells}
+use Rattle.r4_work.specs.r4_path.Steps.{root_pair}
 use Rattle.r4_rows.proofs.RowUnits.{in_units, of_units, same_bool}
 use Rattle.r4_rows.proofs.SlumPieces.{slum_pieces, twig_pieces}
 use Rattle.r4_rows.specs.Fewest.{joined}

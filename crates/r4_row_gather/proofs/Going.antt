@@ -7,19 +7,19 @@ use Rattle.r4_base.specs.Cell.{run_names}
 use Rattle.r4_base.specs.Extents.{is_hole}
 use Rattle.r4_base.specs.Key.{offset_of, rank}
 use Rattle.r4_base.specs.Tree.{Name}
-use Rattle.r4_branch.specs.Pieces.{Follow, IsSoundPart, names_of, next_of, part_end, part_names, part_units}
-use Rattle.r4_branch.specs.Pieces.{piece_end, units_of}
-use Rattle.r4_branch.specs.declared.piece.TwigPart.{TwigPart}
-use Rattle.r4_branch.specs.declared.piece.TwigPart.TheVariants.{Pointer, Blocks}
-use Rattle.r4_branch.specs.declared.piece.TwigPiece.{TwigPiece}
-use Rattle.r4_cell.specs.Seen.{CellSeen}
-use Rattle.r4_edit.proofs.CutParts.{follow_from}
-use Rattle.r4_graft.proofs.FoundPlaces.{runs_level}
-use Rattle.r4_graft.proofs.Joined.{follow_lower}
-use Rattle.r4_graft.proofs.Placed.{has_end}
-use Rattle.r4_graft.proofs.SplicedNames.{names_begin}
-use Rattle.r4_patch.proofs.Members.{cases, here, later, none}
-use Rattle.r4_path.specs.Steps.{IsNameOf, name_of}
+use Rattle.r4_work.specs.r4_branch.Pieces.{Follow, IsSoundPart, names_of, next_of, part_end, part_names, part_units}
+use Rattle.r4_work.specs.r4_branch.Pieces.{piece_end, units_of}
+use Rattle.r4_work.specs.r4_branch.declared.piece.TwigPart.{TwigPart}
+use Rattle.r4_work.specs.r4_branch.declared.piece.TwigPart.TheVariants.{Pointer, Blocks}
+use Rattle.r4_work.specs.r4_branch.declared.piece.TwigPiece.{TwigPiece}
+use Rattle.r4_work.specs.r4_cell.Seen.{CellSeen}
+use Rattle.r4_work.proofs.r4_edit.CutParts.{follow_from}
+use Rattle.r4_work.proofs.r4_graft.FoundPlaces.{runs_level}
+use Rattle.r4_work.proofs.r4_graft.Joined.{follow_lower}
+use Rattle.r4_work.proofs.r4_graft.Placed.{has_end}
+use Rattle.r4_work.proofs.r4_graft.SplicedNames.{names_begin}
+use Rattle.r4_work.proofs.r4_patch.Members.{cases, here, later, none}
+use Rattle.r4_work.specs.r4_path.Steps.{IsNameOf, name_of}
 use Rattle.r4_row_gather.specs.Clearing.{Begins, Fate, Goes, IsLeafAt, IsShortened, MayHave, Stays, coming}
 use Rattle.r4_row_gather.specs.Clearing.{going, is_pointer, staying}
 

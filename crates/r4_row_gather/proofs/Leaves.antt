@@ -9,14 +9,14 @@ use Rattle.r4_base.specs.Key.{rank}
 use Rattle.r4_base.specs.Node.{items_of}
 use Rattle.r4_base.specs.Tree.{IsNode, Node, Store}
 use Rattle.r4_base.specs.Value.{Value}
-use Rattle.r4_branch.specs.Pieces.{Follow, piece_end}
-use Rattle.r4_branch.specs.declared.piece.TwigPiece.{TwigPiece}
-use Rattle.r4_cell.proofs.Nodes.{cell_node}
-use Rattle.r4_cell.specs.Seen.{CellSeen, node_of}
-use Rattle.r4_graft.proofs.Placed.{has_end}
-use Rattle.r4_leaf.specs.Units.{LeafUnit}
-use Rattle.r4_patch.proofs.Members.{Distinct, cases, here, later, none}
-use Rattle.r4_path.proofs.Rising.{hi_is, lo_is}
+use Rattle.r4_work.specs.r4_branch.Pieces.{Follow, piece_end}
+use Rattle.r4_work.specs.r4_branch.declared.piece.TwigPiece.{TwigPiece}
+use Rattle.r4_work.proofs.r4_cell.Nodes.{cell_node}
+use Rattle.r4_work.specs.r4_cell.Seen.{CellSeen, node_of}
+use Rattle.r4_work.proofs.r4_graft.Placed.{has_end}
+use Rattle.r4_work.specs.r4_leaf.Units.{LeafUnit}
+use Rattle.r4_work.proofs.r4_patch.Members.{Distinct, cases, here, later, none}
+use Rattle.r4_work.proofs.r4_path.Rising.{hi_is, lo_is}
 use Rattle.r4_rows.specs.Rows.{AreThere}
 use Rattle.r4_work.specs.r4_edit.LeafParts.{units_from}
 use Rattle.r4_row_gather.proofs.Going.{going_low}

@@ -1,8 +1,8 @@
 -- Parts, one more at a time.
 use Rattle.std.proofs.Common.{◌≤◌, List, [], ◌∷◌, ◌++◌, length, refl, ap, ◌∙◌}
 use Rattle.std.proofs.lemmas.List.Elements.{All-append, All-cons, All-nil}
-use Rattle.r4_branch.specs.Pieces.{twig_bytes}
-use Rattle.r4_branch.specs.declared.piece.TwigPiece.{TwigPiece}
+use Rattle.r4_work.specs.r4_branch.Pieces.{twig_bytes}
+use Rattle.r4_work.specs.r4_branch.declared.piece.TwigPiece.{TwigPiece}
 use Rattle.r4_rows.specs.Fewest.{EachFits}
 use Rattle.r4_squeeze.proofs.Cells.{joined_more}
 use Rattle.r4_row_gather.specs.Parting.{AreParts, HavePiecesToo}

@@ -9,13 +9,13 @@ use Rattle.std.proofs.lemmas.List.{append-nil, append_assoc}
 use Rattle.std.proofs.lemmas.Option.{same_Some}
 use Rattle.r4_base.specs.Key.{rank}
 use Rattle.r4_base.specs.Node.{items_of}
-use Rattle.r4_branch.specs.Pieces.{next_of}
-use Rattle.r4_branch.specs.declared.piece.TwigPiece.{TwigPiece}
+use Rattle.r4_work.specs.r4_branch.Pieces.{next_of}
+use Rattle.r4_work.specs.r4_branch.declared.piece.TwigPiece.{TwigPiece}
 use Rattle.r4_base.specs.declared.key.Key.{Key}
-use Rattle.r4_cell.specs.Seen.{CellSeen, node_of}
-use Rattle.r4_cell.specs.declared.change.Fresh.{Fresh}
-use Rattle.r4_leaf.specs.Units.{LeafUnit}
-use Rattle.r4_patch.proofs.Members.{cases, none}
+use Rattle.r4_work.specs.r4_cell.Seen.{CellSeen, node_of}
+use Rattle.r4_work.specs.r4_cell.declared.change.Fresh.{Fresh}
+use Rattle.r4_work.specs.r4_leaf.Units.{LeafUnit}
+use Rattle.r4_work.proofs.r4_patch.Members.{cases, none}
 use Rattle.r4_work.specs.r4_edit.LeafParts.{IsRightPart, first_from, right_id}
 use Rattle.r4_row_gather.specs.Clearing.{AreSortedOut, Begins, Goes, IsBegunLater, IsLeafAt, IsShortened}
 use Rattle.r4_row_gather.specs.Clearing.{Stays}

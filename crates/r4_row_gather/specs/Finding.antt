@@ -1,8 +1,8 @@
 -- Cells of one level beside each other, among some cells (docs/volume.md, "Bodies in extents").
 use Rattle.std.specs.Prelude.{◌≡◌, ℕ, ◌<◌, ◌≤◌, List, Contains}
 use Rattle.r4_base.specs.Key.{rank}
-use Rattle.r4_cell.specs.Seen.{CellSeen}
-use Rattle.r4_path.specs.Steps.{Follow}
+use Rattle.r4_work.specs.r4_cell.Seen.{CellSeen}
+use Rattle.r4_work.specs.r4_path.Steps.{Follow}
 
 -- It is one of the cells, has the level, and begins with the key.
 pub record BeginsAt (cells : List CellSeen) (level key : ℕ) (c : CellSeen) : Type 0 where

@@ -5,14 +5,14 @@ use Rattle.std.specs.Prelude.{Contains, None}
 use Rattle.r4_base.specs.Key.{rank}
 use Rattle.r4_base.specs.Tree.{Name, Root, Store}
 use Rattle.r4_base.specs.Value.{Value}
-use Rattle.r4_cell.specs.Patch.{HaveNames, IsChange}
-use Rattle.r4_cell.specs.Seen.{CellSeen, node_of}
-use Rattle.r4_cell.specs.declared.change.Change.{Change}
-use Rattle.r4_cell.specs.declared.change.Fresh.{Fresh}
-use Rattle.r4_patch.specs.Effect.{HasEffect}
-use Rattle.r4_patch.specs.Following.{without}
-use Rattle.r4_patch.specs.Joining.{ids_of, patch_of_change}
-use Rattle.r4_patch.specs.Part.{MeetsPart}
+use Rattle.r4_work.specs.r4_cell.Patch.{HaveNames, IsChange}
+use Rattle.r4_work.specs.r4_cell.Seen.{CellSeen, node_of}
+use Rattle.r4_work.specs.r4_cell.declared.change.Change.{Change}
+use Rattle.r4_work.specs.r4_cell.declared.change.Fresh.{Fresh}
+use Rattle.r4_work.specs.r4_patch.Effect.{HasEffect}
+use Rattle.r4_work.specs.r4_patch.Following.{without}
+use Rattle.r4_work.specs.r4_patch.Joining.{ids_of, patch_of_change}
+use Rattle.r4_work.specs.r4_patch.Part.{MeetsPart}
 use Rattle.r4_work.specs.Working.{AreCellsIn}
 use Rattle.r4_row_gather.specs.declared.gathering.Gathered.{Gathered}
 

@@ -1,7 +1,7 @@
 -- Pieces in parts, one for each twig (docs/volume.md, "Bodies in extents").
 use Rattle.std.specs.Prelude.{◌≡◌, ◌≤◌, List, ◌++◌, length, All}
-use Rattle.r4_branch.specs.Pieces.{twig_bytes}
-use Rattle.r4_branch.specs.declared.piece.TwigPiece.{TwigPiece}
+use Rattle.r4_work.specs.r4_branch.Pieces.{twig_bytes}
+use Rattle.r4_work.specs.r4_branch.declared.piece.TwigPiece.{TwigPiece}
 use Rattle.r4_rows.specs.Fewest.{EachFits, joined}
 
 -- The parts have the pieces in their order; in each is one at least, and there is room for it in a

@@ -4,8 +4,8 @@ use Rattle.r4_base.specs.Cell.{next_key}
 use Rattle.r4_base.specs.Extents.{pointer_of}
 use Rattle.r4_base.specs.Key.{rank}
 use Rattle.r4_base.specs.Node.{Item}
-use Rattle.r4_cell.specs.Seen.{CellSeen}
-use Rattle.r4_path.specs.Steps.{Follow}
+use Rattle.r4_work.specs.r4_cell.Seen.{CellSeen}
+use Rattle.r4_work.specs.r4_path.Steps.{Follow}
 use Rattle.r4_row_edit.specs.Climbing.{StandUp}
 use Rattle.r4_row_edit.specs.Over.{StandsOver}
 

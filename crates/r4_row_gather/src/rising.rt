@@ -11,7 +11,7 @@ ghost use Rattle.r4_row_gather.specs.Rising.{PointsTo, StandBeside};
 
 use crate::finding::row_among;
 use r4_base::{Key, Memory, POINTER, TWIG};
-use r4_cell::{Cell, Cells};
+use r4_patch::{Cell, Cells};
 use r4_row_edit::place_in;
 use r4_squeeze::{NodeItem, items_of_all};
 use r4_twig::pointer;

@@ -4,7 +4,7 @@ use Rattle.std.proofs.lemmas.List.{map-append, nil_from_length}
 use Rattle.std.proofs.lemmas.Result.{IfOk-weaker}
 use Rattle.r4_base.specs.Key.{rank}
 use Rattle.r4_base.specs.Node.{items_of}
-use Rattle.r4_cell.specs.Seen.{CellSeen}
+use Rattle.r4_work.specs.r4_cell.Seen.{CellSeen}
 use Rattle.r4_row_gather.specs.Clearing.{AreSortedOut, IsLeafAt, is_in_way}
 use Rattle.r4_row_gather.proofs.SortedOut.{sorted_begins, sorted_goes, sorted_none, sorted_stays}
 use Rattle.r4_row_gather.proofs.clearing.+sort_out.Goals as goal
