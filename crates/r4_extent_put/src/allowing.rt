@@ -36,9 +36,10 @@ const CELL_NUMBERS: u64 = 128;
 /// of its task tell it: no body stands in extents afterwards; no key changes where a twig among
 /// whose extents values come has a block or a hole, and none of these twigs needs more than 16,000
 /// bytes; and there is a number for each leaf that comes, and 128 for each cell. Of the leaves that
-/// change nothing is asked: each is looked at when its turn comes. What it asks for beside that is known of the part of a tree
-/// in which the cells stand, and of the budget (`found_puts_can_be_made`). The only error is want
-/// of memory, where 2^64 leaves or bytes may be needed too (docs/volume.md, "Bodies in extents").
+/// change nothing is asked: each is looked at when its turn comes. What it asks for beside that is
+/// known of the part of a tree in which the cells stand, and of the budget
+/// (`found_puts_can_be_made`). The only error is want of memory, where 2^64 leaves or bytes may be
+/// needed too (docs/volume.md, "Bodies in extents").
 pub fn may_put(
     alloc: Global,
     body: Option<&SizedBody>,

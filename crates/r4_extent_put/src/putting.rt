@@ -29,14 +29,14 @@ use std::alloc::Global;
 use std::sync::Arc;
 
 /// Makes all edits of a command of which values come among extents, and gives them as one change of
-/// the cells of its task; its body, if it has one, stands in no extents afterwards. Each twig among
-/// whose extents values come is packed anew once, with pointers to new leaves that have these
-/// values; then each leaf among the cells that changes is edited once: it is parted where it has no
-/// room, as long as the cells above it suffice. What the edits cut where neither a leaf is nor a
-/// value comes stays. Where leaves have room, it has no more new cells than the budget has, and the
-/// leaves that come. The only error is want of memory, also where the cells above a leaf do not
-/// suffice, or numbers lack: then the numbers are as they were (docs/volume.md, "Bodies in
-/// extents").
+/// the cells of its task, in a tree with this root; its body, if it has one, stands in no extents
+/// afterwards. Each twig among whose extents values come is packed anew once, with pointers to new
+/// leaves that have these values; then each leaf among the cells that changes is edited once: it is
+/// parted where it has no room, as long as the cells above it suffice. What the edits cut where
+/// neither a leaf is nor a value comes stays. Where leaves have room, it has no more new cells than
+/// the budget has, and the leaves that come. The only error is want of memory, also where the cells
+/// above a leaf do not suffice, or numbers lack: then the numbers are as they were (docs/volume.md,
+/// "Bodies in extents").
 pub fn change_of_putting(
     alloc: Global,
     root: &Root,
