@@ -65,7 +65,7 @@ module _ (u v : Store Value) (alike : AreAlike u v) where
   tails_alike o size has = record {
     offsets = λ f low. (
       (λ at. (has.offsets f low).0 (tail_too v u back (byte_rank o f) at)),
-      (λ less. tail_too u v alike (byte_rank o f) ((has.offsets f low).1 less))
+      (λ less. tail_too u v alike (byte_rank o f) ((has.offsets f low).1 less)),
     );
     no_extents = λ f low at. has.no_extents f low (extent_too v u back (byte_rank o f) at);
   }
@@ -74,7 +74,7 @@ module _ (u v : Store Value) (alike : AreAlike u v) where
   extents_alike o size has = record {
     offsets = λ f low. (
       (λ at. (has.offsets f low).0 (extent_too v u back (byte_rank o f) at)),
-      (λ less. extent_too u v alike (byte_rank o f) ((has.offsets f low).1 less))
+      (λ less. extent_too u v alike (byte_rank o f) ((has.offsets f low).1 less)),
     );
     no_tails = λ f low at. has.no_tails f low (tail_too v u back (byte_rank o f) at);
   }
@@ -82,9 +82,13 @@ module _ (u v : Store Value) (alike : AreAlike u v) where
   files_alike : (m : Content) → HasFiles u m → HasFiles v m
   files_alike m has = record {
     keys = has.keys;
-    bodies = λ o a stat file. let (low, body) = has.bodies o a stat file in
-        (low, elim body [ | inl tails ↦ inl (tails_alike o a.size tails)
-          | inr extents ↦ inr (extents_alike o a.size extents) ]);
+    bodies = λ o a stat file. let (low, body) = has.bodies o a stat file in (
+      low,
+      elim body [
+        | inl tails ↦ inl (tails_alike o a.size tails)
+        | inr extents ↦ inr (extents_alike o a.size extents)
+      ],
+    );
     bytes = has.bytes;
   }
 
@@ -111,7 +115,7 @@ module _ (u v : Store Value) (alike : AreAlike u v) where
     moved = m.moved;
     stays = λ k w own off. (
       (λ has. (m.stays k w own off).0 ((alike k w).0 has)),
-      (λ is. (alike k w).1 ((m.stays k w own off).1 is))
+      (λ is. (alike k w).1 ((m.stays k w own off).1 is)),
     );
   }
 
