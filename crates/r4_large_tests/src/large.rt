@@ -29,8 +29,8 @@ pub struct Body {
     pub pieces: &'static [Piece],
 }
 
-/// The blocks of a fresh volume, and two runs on it, one after the other; then what is listed of the
-/// root and of a file, and what a check prints.
+/// The blocks of a fresh volume, and two runs on it, one after the other; then what is listed of
+/// the root and of a file, and what a check prints.
 pub struct Large {
     pub name: &'static str,
     pub blocks: u64,

@@ -3,9 +3,9 @@
 use crate::large::{Body, Large, Piece, Told, holds};
 use std::test::Fail;
 
-// On 256 blocks 232 are free, and a file of 100 blocks leaves 132. Another one needs 100 more, and the
-// price of 102 cells, 106, less that of the one cell that `create` changed, 5: so it has no place
-// beside the first (docs/space.md, "Price and free").
+// On 256 blocks 232 are free, and a file of 100 blocks leaves 132. Another one needs 100 more, and
+// the price of 102 cells, 106, less that of the one cell that `create` changed, 5, which is taken
+// up already: so it has no place beside the first (docs/space.md, "Price and free").
 static ROWS: [Large; 3] = [
     Large {
         name: "one of two is all that has a place",
