@@ -42,23 +42,19 @@ const EMPTY: &str = "d 0755 2 0 0 0 /\n";
 static FIRST: Body = Body {
     path: "/f",
     line: "f 0644 1 0 0 20000 /f\n",
-    pieces: &[
-        Piece {
-            text: "a",
-            times: 20_000,
-        },
-    ],
+    pieces: &[Piece {
+        text: "a",
+        times: 20_000,
+    }],
 };
 
 static SECOND: Body = Body {
     path: "/f",
     line: "f 0644 1 0 0 40000 /f\n",
-    pieces: &[
-        Piece {
-            text: "b",
-            times: 40_000,
-        },
-    ],
+    pieces: &[Piece {
+        text: "b",
+        times: 40_000,
+    }],
 };
 
 // How many writes come before that of the journal header in each of the two commits. The first one

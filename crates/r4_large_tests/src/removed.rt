@@ -86,12 +86,10 @@ committed a2\n",
         body: Body {
             path: "/h",
             line: "f 0644 1 0 0 409600 /h\n",
-            pieces: &[
-                Piece {
-                    text: "c",
-                    times: 409_600,
-                },
-            ],
+            pieces: &[Piece {
+                text: "c",
+                times: 409_600,
+            }],
         },
         checked: "objects 2 faults 0\n",
     },
@@ -148,12 +146,10 @@ committed a1\n",
         body: Body {
             path: "/f",
             line: "f 0644 1 0 0 20000 /f\n",
-            pieces: &[
-                Piece {
-                    text: "b",
-                    times: 20_000,
-                },
-            ],
+            pieces: &[Piece {
+                text: "b",
+                times: 20_000,
+            }],
         },
         checked: "objects 2 faults 0\n",
     },
@@ -214,12 +210,10 @@ committed a1\n",
         body: Body {
             path: "/f",
             line: "f 0644 1 0 0 1 /f\n",
-            pieces: &[
-                Piece {
-                    text: "x",
-                    times: 1,
-                },
-            ],
+            pieces: &[Piece {
+                text: "x",
+                times: 1,
+            }],
         },
         checked: "objects 2 faults 0\n",
     },
