@@ -3,4 +3,5 @@ mod Once
 mod Made
 mod Turned
 mod Grown
+mod Gathered
 mod Put

@@ -1,4 +1,5 @@
 pub mod Making
+pub mod Gathering
 pub mod Losing
 pub mod Growing
 pub mod Putting

@@ -4,6 +4,7 @@
 
 mod allowing;
 mod body;
+mod gathering;
 mod growing;
 mod losing;
 mod making;

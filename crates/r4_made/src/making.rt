@@ -1,6 +1,6 @@
 //! What is built of any task (docs/volume.md, "Building").
 
-ghost use Rattle.std.specs.Prelude.{◌≡◌, IfOk, MatchResult, true};
+ghost use Rattle.std.specs.Prelude.{◌≡◌, IfOk, MatchResult, false, true};
 ghost use Rattle.std.specs.Arc.{arc_value};
 ghost use Rattle.r4_put_tasks.specs.r4_build.Built.{IsBuilt, edits_for};
 ghost use Rattle.r4_put_tasks.specs.r4_build.r4_leaf_edits.Suiting.{SuitLeaves};
@@ -44,6 +44,7 @@ pub fn make<G: Gate>(alloc: Global, gate: &G, task: Task) -> Result<Built, Build
 // The change and the reply of a task whose cells have extents, and the numbers of objects.
 fn parts_of(alloc: Global, task: &Task) -> Result<(Change, Reply, ObjectCounts), Memory>
     requires task { MayBeBuilt task.now }
+    requires outside { task.now.scope.in_leaves ≡ false }
     requires rises { Rises (pairs_of (arc_value task.now.seen)) }
     requires paths { HasBytePaths task.now.command }
     requires lawful { AreLawfulSeen task.now.command (pairs_of (arc_value task.now.seen)) }

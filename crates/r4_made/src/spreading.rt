@@ -1,13 +1,14 @@
 //! The change of a task, by where the body stands that its command changes (docs/volume.md,
 //! "Bodies in extents").
 
-ghost use Rattle.std.specs.Prelude.{◌≡◌, IfOk, IfSome, Some, map, true};
+ghost use Rattle.std.specs.Prelude.{◌≡◌, IfOk, IfSome, Some, false, map, true};
 ghost use Rattle.std.specs.Arc.{arc_value};
 ghost use Rattle.std.specs.Option.{option_copied};
 ghost use Rattle.r4_put_tasks.specs.r4_build.r4_reach.Touched.{is_spread};
 ghost use Rattle.r4_content.specs.Held.{edits_of};
 ghost use Rattle.r4_made.specs.Making.{IsMadeIn, IsMadeOf, IsPlanned, MayBeBuilt, over};
 
+use crate::gathering::{gathered, joined};
 use crate::growing::grown_in;
 use crate::losing::lost;
 use crate::putting::put;
@@ -27,6 +28,7 @@ pub(crate) fn change_of_task(
     edits: &Edits,
 ) -> Result<Change, Memory>
     requires task { MayBeBuilt task.now }
+    requires outside { task.now.scope.in_leaves ≡ false }
     requires planned { IsPlanned task.now (edits_of edits.now) (option_copied body) }
     ensures { IfOk result (IsMadeOf task.now) }
 {
@@ -39,6 +41,7 @@ pub(crate) fn change_of_task(
 // The change of a task whose body stands in extents afterwards.
 fn spread(alloc: Global, task: &Task, body: &SizedBody, edits: &Edits) -> Result<Change, Memory>
     requires task { MayBeBuilt task.now }
+    requires outside { task.now.scope.in_leaves ≡ false }
     requires planned { IsPlanned task.now (edits_of edits.now) (Some body.now) }
     requires spread { is_spread body.now ≡ true }
     ensures { IfOk result (IsMadeOf task.now) }
@@ -50,15 +53,21 @@ fn spread(alloc: Global, task: &Task, body: &SizedBody, edits: &Edits) -> Result
     lengthened(alloc, task, body, edits)
 }
 
-// The change of a task whose body comes to extents, or stands in some and loses no blocks.
+// The change of a task whose body comes to extents, or stands in some and loses no blocks: of its
+// cells as they are, or else of what they are once they are gathered below one twig.
 fn lengthened(alloc: Global, task: &Task, body: &SizedBody, edits: &Edits) -> Result<Change, Memory>
     requires task { MayBeBuilt task.now }
+    requires outside { task.now.scope.in_leaves ≡ false }
     requires planned { IsPlanned task.now (edits_of edits.now) (Some body.now) }
     requires spread { is_spread body.now ≡ true }
     ensures { IfOk result (IsMadeOf task.now) }
 {
-    match lengthened_in(alloc, task, task.writes.as_slice(), body, edits)? {
-        Some(change) => Ok(change),
+    if let Some(change) = lengthened_in(alloc, task, task.writes.as_slice(), body, edits)? {
+        return Ok(change);
+    }
+    let gathered = gathered(alloc, task, body)?;
+    match lengthened_in(alloc, task, gathered.cells.as_slice(), body, edits)? {
+        Some(change) => joined(alloc, task, &gathered, &change),
         None => Err(Memory),
     }
 }

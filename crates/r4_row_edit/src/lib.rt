@@ -14,6 +14,7 @@ mod twigs;
 pub use climbing::{RowChange, climb};
 pub use laws::{shifted_rows_are_changes, shifts_are_patches};
 pub use parting::shift_parted;
+pub use placing::place_in;
 pub use repacking::repacked;
 pub use shifting::shift;
 pub use twigs::twigs_with;

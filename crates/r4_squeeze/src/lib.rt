@@ -17,4 +17,4 @@ pub use nodes::pack_nodes;
 pub use numbering::{numbered, numbers_of};
 pub use slum::is_slum;
 pub use squeezing::{items_of_all, squeeze};
-pub use twigs::filled_of;
+pub use twigs::{filled_of, pieces_of_all};

@@ -32,8 +32,8 @@ pub fn fill_twigs(alloc: Global, slum: &[Arc<Cell>]) -> Result<Vec<Filled>, Memo
     filled_of(alloc, twigs)
 }
 
-// The pieces of all twigs, one twig's after the other's.
-fn pieces_of_all(alloc: Global, slum: &[Arc<Cell>]) -> Result<Vec<TwigPiece>, Memory>
+/// The pieces of all twigs, one twig's after the other's. The twigs stand beside each other.
+pub fn pieces_of_all(alloc: Global, slum: &[Arc<Cell>]) -> Result<Vec<TwigPiece>, Memory>
     requires { (from : ℕ) × ((to : ℕ) × Follow 2 from to (map (λ c. arc_value c) slum.now)) }
     ensures { IfOk result (λ v. (each : List (List TwigPieceSeen))
         × AreTheirPieces (map (λ c. arc_value c) slum.now) each × (v.items ≡ joined each)) }

@@ -1,0 +1,357 @@
+-- Twigs whose pieces are parted anew while leaves without items go are a change without effect.
+use Rattle.std.proofs.Common.{◌≡◌, ◌≢◌, ◌⊎◌, inl, inr, ℕ, suc, ◌<◌, ◌≤◌, false, List, [], ◌∷◌, ◌++◌, length, refl, sym, ap, subst}
+use Rattle.std.proofs.Common.{◌∙◌, arith}
+use Rattle.std.specs.Prelude.{◌↔◌, ◌&&◌, if◌then◌else◌, not, nat_le, nat_lt, Bool, true, Contains, None, Option, Some}
+use Rattle.std.proofs.lemmas.Bool.{false≢true}
+use Rattle.std.proofs.lemmas.Bool.Decides.{nat_tests}
+use Rattle.std.proofs.lemmas.List.Kept.{AllPairs-filter}
+use Rattle.std.proofs.lemmas.List.Elements.{Contains-append_cases, Contains-append_right}
+use Rattle.std.proofs.lemmas.Option.{same_Some}
+use Rattle.r4_base.specs.Cell.{cell_of, units_in}
+use Rattle.r4_base.specs.Key.{rank}
+use Rattle.r4_base.specs.Node.{items_of}
+use Rattle.r4_base.specs.Tree.{Name, Node, Root, Store}
+use Rattle.r4_base.specs.Value.{Value}
+use Rattle.r4_branch.specs.Pieces.{AreTwigPieces, Follow as PiecesFollow, names_of, next_of, piece_end, units_of}
+use Rattle.r4_branch.specs.declared.piece.TwigPart.{TwigPart}
+use Rattle.r4_branch.specs.declared.piece.TwigPart.TheVariants.{Pointer}
+use Rattle.r4_branch.specs.declared.piece.TwigPiece.{TwigPiece}
+use Rattle.r4_cell.specs.Patch.{HaveNames}
+use Rattle.r4_cell.specs.Seen.{CellSeen, node_of}
+use Rattle.r4_cell.specs.declared.change.Change.{Change}
+use Rattle.r4_cell.specs.declared.change.Fresh.{Fresh}
+use Rattle.r4_graft.proofs.FoundPlaces.{find_pointer}
+use Rattle.r4_graft.proofs.Placed.{has_end}
+use Rattle.r4_patch.proofs.LeftOut.{among_contained}
+use Rattle.r4_patch.specs.Following.{is_among, without}
+use Rattle.r4_patch.proofs.Members.{Distinct, cases, distinct, distinct_append, have_names, here, later, none}
+use Rattle.r4_patch.specs.Effect.{Placed}
+use Rattle.r4_patch.specs.Joining.{ids_of}
+use Rattle.r4_path.proofs.Rising.{lo_is}
+use Rattle.r4_path.specs.Levels.{units_of_cells}
+use Rattle.r4_path.specs.Steps.{root_pair}
+use Rattle.r4_rows.proofs.RowUnits.{in_units, of_units, same_bool}
+use Rattle.r4_rows.proofs.SlumPieces.{slum_pieces, twig_pieces}
+use Rattle.r4_rows.specs.Fewest.{joined}
+use Rattle.r4_rows.specs.Packed.{AreTheirPieces}
+use Rattle.r4_rows.specs.Rows.{AreNamedAfter, AreThere, Row, news_in, olds_in}
+use Rattle.r4_rows.specs.Units.{UnitOf}
+use Rattle.r4_squeeze.proofs.SqueezedSlums.{same_range}
+use Rattle.r4_row_edit.proofs.Effects.{shift_change, shift_effect, shift_meets}
+use Rattle.r4_row_edit.proofs.Packed.{some_cells}
+use Rattle.r4_row_edit.proofs.Parted.{may_get}
+use Rattle.r4_row_edit.proofs.Shifts.{in_range}
+use Rattle.r4_row_edit.specs.Climbing.{AreFirst, RowsOver}
+use Rattle.r4_row_edit.specs.Parting.{CanPart, IsParted, MayPart}
+use Rattle.r4_row_edit.specs.Shifting.{IsShiftIn, IsShifted, PiecesTakeEffect}
+use Rattle.r4_row_gather.proofs.Going.{going_low, going_named, of_names, staying_follow, staying_units, to_names}
+use Rattle.r4_row_gather.specs.Clearing.{Fate, Goes, MayHave, Stays, going, is_in_way, is_pointer, staying}
+use Rattle.r4_row_gather.specs.Finding.{IsRowFrom}
+use Rattle.r4_row_gather.specs.Gathering.{IsStill, StandIn}
+use Rattle.r4_row_gather.specs.Parting.{AreParts}
+use Rattle.r4_row_gather.specs.Rising.{AreRowsOver}
+
+-- ---- leaves that go
+
+-- a leaf without items has no units
+no_units : (level lo hi : ℕ) (b : List ℕ) → level ≡ 1 → items_of b ≡ [] → (cell_of level lo hi b).units ≡ []
+unfolding cell_of units_in
+no_units level lo hi b leaf empty = rw leaf (rw empty refl)
+
+going_empty : (hi : ℕ) (ps : List TwigPiece) (fs : List Fate) → MayHave hi ps fs → (c : CellSeen)
+    → Contains (going fs) c → (c.level ≡ 1) × ((node_of c).units ≡ [])
+going_empty hi [] [] may c at = absurd (none c at)
+going_empty hi [] (x ∷ fs) may c at = absurd may
+going_empty hi (p ∷ ps) [] may c at = absurd may
+going_empty hi (p ∷ ps) (Stays ∷ fs) may c at = going_empty hi ps fs may.1 c at
+going_empty hi (p ∷ ps) (Goes d ∷ fs) may c at = elim (cases d c (going fs) at) [
+  | inl is ↦ subst (λ (x : CellSeen). (x.level ≡ 1) × ((node_of x).units ≡ [])) (sym is) (
+      may.0.level,
+      no_units d.level (rank d.lo) (rank d.hi) d.block may.0.level may.0.empty,
+    )
+  | inr more ↦ going_empty hi ps fs may.1 c more
+]
+
+-- those of a tree have each a number of its own
+going_distinct : (t : Store Value) (lo hi : ℕ) (ps : List TwigPiece) (fs : List Fate) → PiecesFollow lo hi ps
+    → MayHave hi ps fs → AreThere t (going fs) → Distinct (going fs)
+going_distinct t lo hi [] [] f may there = tt
+going_distinct t lo hi [] (x ∷ fs) f may there = absurd may
+going_distinct t lo hi (p ∷ ps) [] f may there = absurd may
+going_distinct t lo hi (p ∷ ps) (Stays ∷ fs) f may there = going_distinct t (piece_end p) hi ps fs f.2 may.1 there
+going_distinct t lo hi (p ∷ ps) (Goes d ∷ fs) f may there = (
+  (λ c at same.
+    let (low, leaf) = going_low (piece_end p) hi ps fs f.2 may.1 c at in
+    let one = there d (here d (going fs)) in
+    let two = there c (later d c (going fs) at) in
+    let nodes = same_Some (node_of d) (node_of c) (sym one ∙ (ap t same ∙ two)) in
+    let los = sym (lo_is d) ∙ (ap (λ (x : Node Value). x.lo) nodes ∙ lo_is c) in
+    let begin = may.0.begins in
+    let end = has_end p f.1 in
+    omega (arith, low, los, begin, end)),
+  going_distinct t (piece_end p) hi ps fs f.2 may.1 (λ c at. there c (later d c (going fs) at)),
+)
+
+-- ---- the levels of the rows above
+
+olds_above : (l : ℕ) (s : Row) (more : List Row) → RowsOver l s more → (c : CellSeen) → Contains (olds_in more) c
+    → suc l ≤ c.level
+olds_above l s [] over c at = absurd (none c at)
+olds_above l s (x ∷ more) (points, over) c at = elim (Contains-append_cases x.old (olds_in more) c at) [
+  | inl mine ↦ let is = (in_range (suc l) points.from points.to x.old c points.were mine).0 in omega (arith, is)
+  | inr rest ↦ let high = olds_above (suc l) x more over c rest in omega (arith, high)
+]
+
+news_above : (l : ℕ) (s : Row) (more : List Row) → RowsOver l s more → (c : CellSeen) → Contains (news_in more None) c
+    → suc l ≤ c.level
+news_above l s [] over c at = absurd (none c at)
+news_above l s (x ∷ more) (points, over) c at = elim (Contains-append_cases x.new (news_in more None) c at) [
+  | inl mine ↦ let is = (in_range (suc l) points.from points.to x.new c points.are mine).0 in omega (arith, is)
+  | inr rest ↦ let high = news_above (suc l) x more over c rest in omega (arith, high)
+]
+
+olds_first : (more : List Row) (rows : List (List CellSeen)) → AreFirst more rows → (c : CellSeen)
+    → Contains (olds_in more) c → (row : List CellSeen) × Contains rows row × Contains row c
+olds_first [] rows first c at = absurd (none c at)
+olds_first (x ∷ more) [] first c at = absurd first
+olds_first (x ∷ more) (row ∷ rows) (is, first) c at = elim (Contains-append_cases x.old (olds_in more) c at) [
+  | inl mine ↦ (row, here row rows, subst (λ xs. Contains xs c) is mine)
+  | inr rest ↦ let (r, m, there) = olds_first more rows first c rest in (r, later row r rows m, there)
+]
+
+no_root : (over : Option CellSeen) → root_pair over ≡ None → over ≡ None
+no_root None e = refl
+no_root (Some c) e = absurd cc
+
+-- ---- out of the way
+
+in_middle : {A : Type 0} (xs : List A) (y : A) (ys : List A) → Contains (xs ++ y ∷ ys) y
+in_middle [] y ys = here y ys
+in_middle (x ∷ xs) y ys = later x y (xs ++ y ∷ ys) (in_middle xs y ys)
+
+out_of_way : (from to key : ℕ) (p : TwigPiece) (id : ℕ) → p.part ≡ Pointer (record { 0 = id })
+    → rank p.key ≡ key → is_in_way from to p ≡ false → (key < from) ⊎ (to ≤ key)
+out_of_way from to key p id points at out = by_tests (nat_le from (rank p.key)) (nat_lt (rank p.key) to) refl refl
+    (subst (λ (t : TwigPart). (is_pointer t && (nat_le from (rank p.key) && nat_lt (rank p.key) to)) ≡ false) points out)
+  where
+    by_tests : (a b : Bool) → nat_le from (rank p.key) ≡ a → nat_lt (rank p.key) to ≡ b → (a && b) ≡ false
+        → (key < from) ⊎ (to ≤ key)
+    by_tests false b one two e = inl (grind (arith, nat_tests, one, at))
+    by_tests true false one two e = inr (grind (arith, nat_tests, two, at))
+    by_tests true true one two e = absurd cc
+
+-- ---- names of what stands
+
+not_among : (ids : List ℕ) (cells : List CellSeen) (x : CellSeen) → Contains (without ids cells) x
+    → Contains ids x.id → ⊥
+not_among ids [] x at there = none x at
+not_among ids (c ∷ cells) x at there =
+    by_test (is_among ids c.id) refl (λ m. not_among ids cells x m there) at
+  where
+    by_test : (b : Bool) → is_among ids c.id ≡ b → (Contains (without ids cells) x → ⊥)
+        → Contains (if not b then c ∷ without ids cells else without ids cells) x → ⊥
+    by_test true e rest m = rest m
+    by_test false e rest m = elim (cases c x (without ids cells) m) [
+      | inl is ↦ false≢true (sym e ∙ among_contained ids c.id (subst (λ (y : CellSeen). Contains ids y.id) is there))
+      | inr more ↦ rest more
+    ]
+
+pub standing_names : (cells old new : List CellSeen) → HaveNames cells → HaveNames new
+    → ((c : CellSeen) → Contains new c → Contains (ids_of old) c.id) → HaveNames (new ++ without (ids_of old) cells)
+standing_names cells old new names fresh numbers = have_names (new ++ without (ids_of old) cells)
+    (distinct_append new (without (ids_of old) cells) (distinct new fresh)
+    (distinct (without (ids_of old) cells) (AllPairs-filter (λ (c d : CellSeen). c.id ≢ d.id)
+    (λ (c : CellSeen). not (is_among (ids_of old) c.id)) cells names))
+    (λ x y mx my same. not_among (ids_of old) cells y my (subst (Contains (ids_of old)) same (numbers x mx))))
+
+-- ---- the change
+
+abbrev no_fresh : Fresh
+no_fresh = record { next = 0; end = 0 }
+
+module _ (cells row : List CellSeen) (begin hi : ℕ) (is : IsRowFrom cells 2 begin hi row)
+    (each : List (List TwigPiece)) (their : AreTheirPieces row each) (fates : List Fate)
+    (may : MayHave hi (joined each) fates) (first : next_of hi (staying (joined each) fates) ≡ next_of hi (joined each))
+    (among : (c : CellSeen) → Contains (going fates) c → Contains cells c) (parts : List (List TwigPiece))
+    (are : AreParts (staying (joined each) fates) parts) (few : length parts ≤ length row)
+    (above : List (List CellSeen)) (over : AreRowsOver cells 2 row above) where
+  had : AreTwigPieces is.lo hi (joined each)
+  had = twig_pieces row is.lo hi each is.along is.some their
+
+  some_of : (ps : List TwigPiece) → next_of hi ps ≡ is.lo → 1 ≤ length ps
+  some_of [] e = let less = is.some in absurd (omega (arith, e, less))
+  some_of (p ∷ ps) e = omega arith
+
+  left : AreTwigPieces is.lo hi (staying (joined each) fates)
+  left = record {
+    some = some_of (staying (joined each) fates) (first ∙ had.first);
+    first = first ∙ had.first;
+    follow = staying_follow is.lo hi (joined each) fates had.follow may;
+  }
+
+  may_part : MayPart row parts
+  may_part = record {
+    from = is.lo;
+    to = hi;
+    along = is.along;
+    pieces = subst (AreTwigPieces is.lo hi) (sym are.are) left;
+    some = are.some;
+    fit = are.fit;
+    few = few;
+  }
+
+  pub can_part : CanPart row parts above
+  can_part = record { may = may_part; up = over.up }
+
+  abbrev low : Row
+  low = record { old = going fates; new = [] }
+
+  -- ---- its cells
+
+  module _ (c : Change) (made : IsParted low row parts above c) where
+    shifted : IsShifted low row (joined parts) above no_fresh no_fresh c
+    shifted = (made.shifted no_fresh (omega arith)).0
+
+    over_none : shifted.over ≡ None
+    over_none = no_root shifted.over (sym shifted.root ∙ made.root)
+
+    old_cases : (x : CellSeen) → Contains c.old x
+        → Contains (going fates) x ⊎ (Contains row x ⊎ Contains (olds_in shifted.more) x)
+    old_cases x at = elim (Contains-append_cases (going fates) (row ++ olds_in shifted.more) x
+        (subst (λ cs. Contains cs x) shifted.old at)) [
+      | inl gone ↦ inl gone
+      | inr rest ↦ inr (Contains-append_cases row (olds_in shifted.more) x rest)
+    ]
+
+    pub old_among : (x : CellSeen) → Contains c.old x → Contains cells x
+    old_among x at = elim (old_cases x at) [
+      | inl gone ↦ among x gone
+      | inr (inl mine) ↦ is.among x mine
+      | inr (inr high) ↦
+          let (cs, m, there) = olds_first shifted.more above shifted.climbed.olds x high in over.among cs m x there
+    ]
+
+    pub new_numbers : (x : CellSeen) → Contains c.new x → Contains (ids_of c.old) x.id
+    new_numbers x at = elim (made.numbers x at) [
+      | inl below ↦ absurd (none x below)
+      | inr old ↦ old
+    ]
+
+    new_twig : (x : CellSeen) → Contains c.new x → x.level ≡ 2 → Contains shifted.cells x
+    new_twig x at two = elim (Contains-append_cases shifted.cells (news_in shifted.more shifted.over) x
+        (subst (λ cs. Contains cs x) shifted.new at)) [
+      | inl mine ↦ mine
+      | inr high ↦
+          let up = news_above 2 (record { old = row; new = shifted.cells }) shifted.more shifted.climbed.points x
+          (subst (λ o. Contains (news_in shifted.more o) x) over_none high) in
+          absurd (omega (arith, up, two))
+    ]
+
+    gone_leaf : (x : CellSeen) → Contains c.old x → x.level ≡ 1 → Contains (going fates) x
+    gone_leaf x at leaf = elim (old_cases x at) [
+      | inl gone ↦ gone
+      | inr (inl mine) ↦
+          let two = (in_range 2 is.lo hi row x is.along mine).0 in absurd (omega (arith, two, leaf))
+      | inr (inr high) ↦
+          let up = olds_above 2 (record { old = row; new = shifted.cells }) shifted.more shifted.climbed.points x high in
+          absurd (omega (arith, up, leaf))
+    ]
+
+    pub way : (from to : ℕ) → ((x : CellSeen) → Contains (going fates) x → (p : TwigPiece)
+        → Contains (staying (joined each) fates) p → is_in_way from to p ≡ false)
+        → (x : CellSeen) → Contains c.old x → x.level ≡ 1 → (d : CellSeen) → Contains c.new d → d.level ≡ 2
+        → (n : Name) → Contains (node_of d).names n → n.level ≡ 1 → (n.lo < from) ⊎ (to ≤ n.lo)
+    way from to clear x at leaf d new two n named low =
+        let naming = (shifted.twigs.twigs.has.names n).0 (d, new_twig d new two, named) in
+        let f = find_pointer is.lo hi shifted.twigs.to (staying (joined each) fates) n left.follow
+        (subst (λ ps. Contains (names_of shifted.twigs.to ps) n) are.are naming) low in
+        out_of_way from to n.lo f.piece n.id f.part f.key (clear x (gone_leaf x at leaf) f.piece
+        (subst (λ ps. Contains ps f.piece) (sym f.is) (in_middle f.before f.piece f.behind)))
+
+  -- ---- in a part of a tree
+
+  module _ (t : Store Value) (r : Root) (within : StandIn t r cells) where
+    gone_there : AreThere t (going fates)
+    gone_there c at = within.stand c (among c at)
+
+    named : (to : ℕ) → to ≡ hi → (n : Name) → Contains (names_of to (joined parts)) n
+        ↔ AreNamedAfter low (record { old = row; new = [] }) n
+    named to same n = (
+      (λ at. let (kept, out) = of_names is.lo hi (joined each) fates had.follow may n
+          (subst (λ ps. Contains (names_of hi ps) n) are.are (subst (λ k. Contains (names_of k (joined parts)) n) same at)) in
+          inl (((slum_pieces row is.lo hi each is.along is.some their).names n).1 kept, out)),
+      (λ after. elim after [
+        | inl (naming, out) ↦ subst (λ k. Contains (names_of k (joined parts)) n) (sym same)
+            (subst (λ ps. Contains (names_of hi ps) n) (sym are.are)
+            (to_names hi (joined each) fates may n
+            (((slum_pieces row is.lo hi each is.along is.some their).names n).0 naming) out))
+        | inr (c, at, same_name) ↦ absurd (none c at)
+      ]),
+    )
+
+    pub shift_in : IsShiftIn t r low row (joined parts) above no_fresh
+    shift_in = record {
+      part = within.part;
+      gone = gone_there;
+      low_old = λ c at. let (leaf, empty) = going_empty hi (joined each) fates may c at in omega (arith, leaf);
+      low_new = λ c at. absurd (none c at);
+      nodes = λ c at. absurd (none c at);
+      there = λ c at. within.stand c (is.among c at);
+      leads = λ c at. ((slum_pieces row is.lo hi each is.along is.some their).names _).1
+          (going_named hi (joined each) fates may c at);
+      names = λ from to along n. named to (let (l, a, b) = same_range 2 2 from to is.lo hi row
+          (some_cells 2 is.lo hi row is.some is.along) along is.along in b) n;
+      stand = λ cs at c m. within.stand c (over.among cs at c m);
+      up = λ too_few. absurd (too_few (may_get row parts may_part));
+      free = record {
+        cells = λ i low less. absurd (omega (arith, less));
+        names = λ i low less. absurd (omega (arith, less));
+      };
+      below = record {
+        old = have_names (going fates) (going_distinct t is.lo hi (joined each) fates had.follow may gone_there);
+        new = have_names [] tt;
+        each = λ c at. absurd (none c at);
+      };
+    }
+
+    -- ---- what happens to units
+
+    twigs_of : (k : ℕ) (u : Placed Value) (xs ys : List CellSeen) → ((c : CellSeen) → Contains xs c → c.level ≡ 2)
+        → ((c : CellSeen) → Contains ys c → c.level ≡ 2) → units_of_cells xs ≡ units_of_cells ys → UnitOf xs k u
+        → UnitOf ys k u
+    twigs_of k u xs ys one two same (c, at, unit, kind) =
+        let (d, there, also) = of_units ys (k, u.0) (subst (λ us. Contains us (k, u.0)) same
+        (in_units xs c (k, u.0) at unit)) in
+        (d, there, also, same_bool c.level d.level u.1 (one c at ∙ sym (two d there)) kind)
+
+    in_row : (c : CellSeen) → Contains row c → c.level ≡ 2
+    in_row c at = (in_range 2 is.lo hi row c is.along at).0
+
+    takes_effect : PiecesTakeEffect low row (joined parts) (λ k. false) (λ k. None)
+    takes_effect cs (twigs, units) = record {
+      held = λ k at. absurd cc;
+      there = λ k u at. absurd cc;
+      others = λ k u at. (
+        (λ new. let (c, m, unit, kind) = twigs_of k u cs row twigs in_row same new in
+            (c, Contains-append_right (going fates) row c m, unit, kind)),
+        (λ (c, m, unit, kind). elim (Contains-append_cases (going fates) row c m) [
+          | inl gone ↦ let (leaf, empty) = going_empty hi (joined each) fates may c gone in
+              absurd (none (k, u.0) (subst (λ us. Contains us (k, u.0)) empty unit))
+          | inr stays ↦ twigs_of k u row cs in_row twigs (sym same) (c, stays, unit, kind)
+        ]),
+      );
+    }
+      where
+        same : units_of_cells cs ≡ units_of_cells row
+        same = units ∙ (ap units_of are.are ∙ (staying_units hi (joined each) fates may
+            ∙ sym (slum_pieces row is.lo hi each is.along is.some their).units))
+
+    pub still : (c : Change) → IsParted low row parts above c → IsStill t r c
+    still c made =
+        let (s, same) = made.shifted no_fresh (omega arith) in
+        record {
+          change = shift_change t r low row (joined parts) above no_fresh no_fresh c shift_in s;
+          meets = shift_meets t r low row (joined parts) above no_fresh no_fresh c shift_in s;
+          effect = shift_effect t r low row (joined parts) above no_fresh no_fresh c shift_in s (λ k. false) (λ k. None)
+              takes_effect;
+        }

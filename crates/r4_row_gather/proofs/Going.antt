@@ -1,0 +1,181 @@
+-- Pieces of which those go that point to leaves without items.
+use Rattle.std.proofs.Common.{◌≡◌, inl, inr, ℕ, ◌<◌, ◌≤◌, true, false, List, [], ◌∷◌, ◌++◌, refl, sym, ap, subst}
+use Rattle.std.proofs.Common.{◌∙◌, arith}
+use Rattle.std.specs.Prelude.{◌↔◌, Contains}
+use Rattle.std.proofs.lemmas.List.Elements.{Contains-append_cases, Contains-append_left, Contains-append_right}
+use Rattle.r4_base.specs.Extents.{is_hole}
+use Rattle.r4_base.specs.Key.{rank}
+use Rattle.r4_base.specs.Tree.{Name}
+use Rattle.r4_branch.specs.Pieces.{Follow, names_of, next_of, part_names, piece_end, units_of}
+use Rattle.r4_branch.specs.declared.piece.TwigPart.{TwigPart}
+use Rattle.r4_branch.specs.declared.piece.TwigPart.TheVariants.{Pointer, Blocks}
+use Rattle.r4_branch.specs.declared.piece.TwigPiece.{TwigPiece}
+use Rattle.r4_cell.specs.Seen.{CellSeen}
+use Rattle.r4_graft.proofs.FoundPlaces.{runs_level}
+use Rattle.r4_graft.proofs.Placed.{has_end}
+use Rattle.r4_graft.proofs.SplicedNames.{names_begin}
+use Rattle.r4_patch.proofs.Members.{cases, here, later, none}
+use Rattle.r4_path.specs.Steps.{IsNameOf, name_of}
+use Rattle.r4_row_gather.specs.Clearing.{Fate, Goes, IsEmptied, MayHave, Stays, going, is_pointer, staying}
+
+-- ---- where they stand
+
+follow_lower : (lo k hi : ℕ) (ps : List TwigPiece) → lo ≤ k → Follow k hi ps → Follow lo hi ps
+follow_lower lo k hi [] le f = omega (arith, le, f)
+follow_lower lo k hi (p ∷ ps) le f = let h = f.0 in (omega (arith, le, h), f.1, f.2)
+
+pub staying_follow : (lo hi : ℕ) (ps : List TwigPiece) (fs : List Fate) → Follow lo hi ps → MayHave hi ps fs
+    → Follow lo hi (staying ps fs)
+staying_follow lo hi [] fs f may = f
+staying_follow lo hi (p ∷ ps) [] f may = absurd may
+staying_follow lo hi (p ∷ ps) (Stays ∷ fs) f may = (f.0, f.1, staying_follow (piece_end p) hi ps fs f.2 may.1)
+staying_follow lo hi (p ∷ ps) (Goes c ∷ fs) f may =
+    let low = f.0 in
+    let high = has_end p f.1 in
+    follow_lower lo (piece_end p) hi (staying ps fs) (omega (arith, low, high))
+    (staying_follow (piece_end p) hi ps fs f.2 may.1)
+
+pub staying_units : (hi : ℕ) (ps : List TwigPiece) (fs : List Fate) → MayHave hi ps fs
+    → units_of (staying ps fs) ≡ units_of ps
+unfolding units_of
+staying_units hi [] fs may = refl
+staying_units hi (p ∷ ps) [] may = absurd may
+staying_units hi (p ∷ ps) (Stays ∷ fs) may =
+    ap (λ us. Rattle.r4_branch.specs.Pieces.part_units (rank p.key) p.part ++ us) (staying_units hi ps fs may.1)
+staying_units hi (p ∷ ps) (Goes c ∷ fs) may =
+    staying_units hi ps fs may.1
+    ∙ ap (λ (part : TwigPart). Rattle.r4_branch.specs.Pieces.part_units (rank p.key) part ++ units_of ps)
+    (sym may.0.points)
+
+-- ---- the leaves that go
+
+-- a leaf that goes lies behind
+pub going_low : (lo hi : ℕ) (ps : List TwigPiece) (fs : List Fate) → Follow lo hi ps → MayHave hi ps fs
+    → (c : CellSeen) → Contains (going fs) c → (lo ≤ rank c.lo) × (c.level ≡ 1)
+going_low lo hi [] [] f may c at = absurd (none c at)
+going_low lo hi [] (x ∷ fs) f may c at = absurd may
+going_low lo hi (p ∷ ps) [] f may c at = absurd may
+going_low lo hi (p ∷ ps) (Stays ∷ fs) f may c at =
+    let (low, leaf) = going_low (piece_end p) hi ps fs f.2 may.1 c at in
+    let begin = f.0 in
+    let end = has_end p f.1 in (omega (arith, low, begin, end), leaf)
+going_low lo hi (p ∷ ps) (Goes d ∷ fs) f may c at = elim (cases d c (going fs) at) [
+  | inl is ↦
+      let begin = may.0.begins in
+      let same = ap (λ (x : CellSeen). rank x.lo) is in
+      let low = f.0 in (omega (arith, begin, same, low), ap (λ (x : CellSeen). x.level) is ∙ may.0.level)
+  | inr more ↦
+      let (low, leaf) = going_low (piece_end p) hi ps fs f.2 may.1 c more in
+      let begin = f.0 in
+      let end = has_end p f.1 in (omega (arith, low, begin, end), leaf)
+]
+
+-- its name
+leaf_name : (hi : ℕ) (p : TwigPiece) (ps : List TwigPiece) (c : CellSeen) → IsEmptied (next_of hi ps) p c
+    → part_names (rank p.key) (next_of hi ps) p.part ≡ name_of c ∷ []
+leaf_name hi p ps c e =
+    let begin = sym e.begins in
+    let end = sym e.ends in
+    rw e.points (rw begin (rw end (rw e.level refl)))
+
+pub going_named : (hi : ℕ) (ps : List TwigPiece) (fs : List Fate) → MayHave hi ps fs → (c : CellSeen)
+    → Contains (going fs) c → Contains (names_of hi ps) (name_of c)
+unfolding names_of
+going_named hi [] [] may c at = absurd (none c at)
+going_named hi [] (x ∷ fs) may c at = absurd may
+going_named hi (p ∷ ps) [] may c at = absurd may
+going_named hi (p ∷ ps) (Stays ∷ fs) may c at =
+    Contains-append_right (part_names (rank p.key) (next_of hi ps) p.part) (names_of hi ps) (name_of c)
+    (going_named hi ps fs may.1 c at)
+going_named hi (p ∷ ps) (Goes d ∷ fs) may c at = elim (cases d c (going fs) at) [
+  | inl is ↦ Contains-append_left (part_names (rank p.key) (next_of hi ps) p.part) (names_of hi ps) (name_of c)
+      (subst (λ ns. Contains ns (name_of c)) (sym (leaf_name hi p ps d may.0))
+      (subst (λ (x : CellSeen). Contains (name_of d ∷ []) (name_of x)) (sym is) (here (name_of d) [])))
+  | inr more ↦ Contains-append_right (part_names (rank p.key) (next_of hi ps) p.part) (names_of hi ps) (name_of c)
+      (going_named hi ps fs may.1 c more)
+]
+
+-- ---- names
+
+part_same : (k a b : ℕ) (t : TwigPart) → (is_pointer t ≡ true → a ≡ b) → part_names k a t ≡ part_names k b t
+part_same k a b (Pointer to) same = ap (λ n. part_names k n (Pointer to)) (same refl)
+part_same k a b (Blocks u) same = refl
+
+-- a leaf that begins behind the key has no name of the part
+part_apart : (k end next : ℕ) (t : TwigPart) (n : Name) (c : CellSeen) → Contains (part_names k next t) n → k < rank c.lo
+    → c.level ≡ 1 → n ≡ name_of c → ⊥
+part_apart k end next (Pointer to) n c at less leaf is = elim (cases _ n [] at) [
+  | inl one ↦
+      let same = ap (λ (x : Name). x.lo) (sym one ∙ is) in omega (arith, same, less)
+  | inr more ↦ none n more
+]
+part_apart k end next (Blocks u) n c at less leaf is = by_hole (is_hole u) at
+  where
+    by_hole : (b : Rattle.std.specs.Prelude.Bool) → Contains (Rattle.std.specs.Prelude.if◌then◌else◌ b [] (Rattle.r4_base.specs.Cell.run_names k u.start u.width)) n → ⊥
+    by_hole true m = none n m
+    by_hole false m =
+        let zero_level = runs_level k u.start u.width n m in
+        let same = ap (λ (x : Name). x.level) is in omega (arith, zero_level, same, leaf)
+
+pub of_names : (lo hi : ℕ) (ps : List TwigPiece) (fs : List Fate) → Follow lo hi ps → MayHave hi ps fs → (n : Name)
+    → Contains (names_of hi (staying ps fs)) n → Contains (names_of hi ps) n × (IsNameOf (going fs) n → ⊥)
+unfolding names_of
+of_names lo hi [] [] f may n at = absurd (none n at)
+of_names lo hi [] (x ∷ fs) f may n at = absurd may
+of_names lo hi (p ∷ ps) [] f may n at = absurd may
+of_names lo hi (p ∷ ps) (Stays ∷ fs) f may n at =
+    elim (Contains-append_cases (part_names (rank p.key) (next_of hi (staying ps fs)) p.part) (names_of hi (staying ps fs)) n at) [
+      | inl mine ↦ (
+        Contains-append_left (part_names (rank p.key) (next_of hi ps) p.part) (names_of hi ps) n
+            (subst (λ ns. Contains ns n)
+            (part_same (rank p.key) (next_of hi (staying ps fs)) (next_of hi ps) p.part may.0) mine),
+        (λ (c, mc, is).
+          let (low, leaf) = going_low (piece_end p) hi ps fs f.2 may.1 c mc in
+          let end = has_end p f.1 in
+          part_apart (rank p.key) (piece_end p) (next_of hi (staying ps fs)) p.part n c mine (omega (arith, low, end)) leaf is),
+      )
+      | inr more ↦
+          let (had, kept) = of_names (piece_end p) hi ps fs f.2 may.1 n more in (
+            Contains-append_right (part_names (rank p.key) (next_of hi ps) p.part) (names_of hi ps) n had,
+            kept,
+          )
+    ]
+of_names lo hi (p ∷ ps) (Goes d ∷ fs) f may n at =
+    let (had, kept) = of_names (piece_end p) hi ps fs f.2 may.1 n at in (
+      Contains-append_right (part_names (rank p.key) (next_of hi ps) p.part) (names_of hi ps) n had,
+      (λ (c, mc, is). elim (cases d c (going fs) mc) [
+        | inl one ↦
+            let (low, more) = names_begin (piece_end p) hi hi ps n f.2 had in
+            let begin = may.0.begins in
+            let same = ap (λ (x : CellSeen). rank x.lo) one in
+            let at_lo = ap (λ (x : Name). x.lo) is in
+            let end = has_end p f.1 in
+            omega (arith, low, begin, same, at_lo, end)
+        | inr more ↦ kept (c, more, is)
+      ]),
+    )
+
+pub to_names : (hi : ℕ) (ps : List TwigPiece) (fs : List Fate) → MayHave hi ps fs → (n : Name)
+    → Contains (names_of hi ps) n → (IsNameOf (going fs) n → ⊥) → Contains (names_of hi (staying ps fs)) n
+unfolding names_of
+to_names hi [] [] may n at kept = at
+to_names hi [] (x ∷ fs) may n at kept = absurd may
+to_names hi (p ∷ ps) [] may n at kept = absurd may
+to_names hi (p ∷ ps) (Stays ∷ fs) may n at kept =
+    elim (Contains-append_cases (part_names (rank p.key) (next_of hi ps) p.part) (names_of hi ps) n at) [
+      | inl mine ↦
+          Contains-append_left (part_names (rank p.key) (next_of hi (staying ps fs)) p.part) (names_of hi (staying ps fs)) n
+          (subst (λ ns. Contains ns n)
+          (sym (part_same (rank p.key) (next_of hi (staying ps fs)) (next_of hi ps) p.part may.0)) mine)
+      | inr more ↦
+          Contains-append_right (part_names (rank p.key) (next_of hi (staying ps fs)) p.part) (names_of hi (staying ps fs)) n
+          (to_names hi ps fs may.1 n more kept)
+    ]
+to_names hi (p ∷ ps) (Goes d ∷ fs) may n at kept =
+    elim (Contains-append_cases (part_names (rank p.key) (next_of hi ps) p.part) (names_of hi ps) n at) [
+      | inl mine ↦ elim (cases (name_of d) n [] (subst (λ ns. Contains ns n) (leaf_name hi p ps d may.0) mine)) [
+        | inl is ↦ absurd (kept (d, here d (going fs), is))
+        | inr more ↦ absurd (none n more)
+      ]
+      | inr more ↦ to_names hi ps fs may.1 n more (λ (c, mc, is). kept (c, later d c (going fs) mc, is))
+    ]
