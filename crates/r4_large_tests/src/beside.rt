@@ -7,7 +7,7 @@ static ROWS: [Large; 3] = [
     Large {
         name: "small files before and behind a large one",
         blocks: 128,
-        runs: [
+        runs: &[
             Told {
                 text: "\
 script\n\
@@ -122,7 +122,7 @@ f 0644 1 0 0 5 /d/x\n",
     Large {
         name: "three files, two of them large",
         blocks: 128,
-        runs: [
+        runs: &[
             Told {
                 text: "\
 script\n\
@@ -220,7 +220,7 @@ f 0644 1 0 0 20000 /c\n",
     Large {
         name: "a large file of a directory that goes",
         blocks: 128,
-        runs: [
+        runs: &[
             Told {
                 text: "\
 script\n\

@@ -8,7 +8,7 @@ static ROWS: [Large; 2] = [
     Large {
         name: "bytes at both sides of borders",
         blocks: 64,
-        runs: [
+        runs: &[
             Told {
                 text: "\
 script\n\
@@ -114,7 +114,7 @@ committed a1\n",
     Large {
         name: "more than one twig",
         blocks: 1024,
-        runs: [
+        runs: &[
             Told {
                 text: "\
 script\n\

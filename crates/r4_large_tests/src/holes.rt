@@ -7,7 +7,7 @@ static ROWS: [Large; 2] = [
     Large {
         name: "bytes far behind the end",
         blocks: 64,
-        runs: [
+        runs: &[
             Told {
                 text: "\
 script\n\
@@ -123,7 +123,7 @@ committed a1\n",
     Large {
         name: "a hole between blocks",
         blocks: 64,
-        runs: [
+        runs: &[
             Told {
                 text: "\
 script\n\

@@ -34,7 +34,7 @@ pub struct Body {
 pub struct Large {
     pub name: &'static str,
     pub blocks: u64,
-    pub runs: [Told; 2],
+    pub runs: &'static [Told],
     pub listed: &'static str,
     pub body: Body,
     pub checked: &'static str,
@@ -47,7 +47,7 @@ pub fn holds<X: Abort + Threads + Wait + Sync>(
     row: &Large,
 ) -> Result<(), Fail> {
     let mut dev = fresh(rt, alloc, row.blocks)?;
-    for run in &row.runs {
+    for run in row.runs {
         tells(rt, alloc, &mut dev, run, row.name)?;
     }
     is_left(rt, alloc, &mut dev, row)

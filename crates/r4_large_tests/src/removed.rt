@@ -10,7 +10,7 @@ static ROWS: [Large; 3] = [
     Large {
         name: "one of two is all that has a place",
         blocks: 256,
-        runs: [
+        runs: &[
             Told {
                 text: "\
 script\n\
@@ -96,7 +96,7 @@ committed a2\n",
     Large {
         name: "a file of more than one twig goes",
         blocks: 1024,
-        runs: [
+        runs: &[
             Told {
                 text: "\
 script\n\
@@ -156,7 +156,7 @@ committed a1\n",
     Large {
         name: "a file goes in the transaction that made it",
         blocks: 128,
-        runs: [
+        runs: &[
             Told {
                 text: "\
 script\n\

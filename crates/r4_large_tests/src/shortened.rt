@@ -7,7 +7,7 @@ static ROWS: [Large; 3] = [
     Large {
         name: "within a block, to a border and to nothing",
         blocks: 128,
-        runs: [
+        runs: &[
             Told {
                 text: "\
 script\n\
@@ -119,7 +119,7 @@ committed a1\n",
     Large {
         name: "shorter and longer over commits",
         blocks: 128,
-        runs: [
+        runs: &[
             Told {
                 text: "\
 script\n\
@@ -225,7 +225,7 @@ committed a1\n",
     Large {
         name: "a hole at the end",
         blocks: 64,
-        runs: [
+        runs: &[
             Told {
                 text: "\
 script\n\

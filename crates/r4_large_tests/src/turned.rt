@@ -7,7 +7,7 @@ static ROWS: [Large; 3] = [
     Large {
         name: "two files that are written at byte 16,384",
         blocks: 128,
-        runs: [
+        runs: &[
             Told {
                 text: "\
 script\n\
@@ -93,7 +93,7 @@ committed a1\n",
     Large {
         name: "a file that is filled over its tail",
         blocks: 64,
-        runs: [
+        runs: &[
             Told {
                 text: "\
 script\n\
@@ -167,7 +167,7 @@ committed a1\n",
     Large {
         name: "a file that gets zeros behind its tail",
         blocks: 64,
-        runs: [
+        runs: &[
             Told {
                 text: "\
 script\n\
