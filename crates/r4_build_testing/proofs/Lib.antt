@@ -1,3 +1,3 @@
 pub mod Lawful
 mod Room
-mod TwoCells
+pub mod TwoCells

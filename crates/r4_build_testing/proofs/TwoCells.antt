@@ -31,6 +31,8 @@ use Rattle.r4_build.specs.r4_branch.declared.piece.TwigPart.TheVariants.{Pointer
 use Rattle.r4_build.specs.r4_measure.Asked.{asked_of}
 use Rattle.r4_build.specs.r4_measure.Begin.{IsQuiet, IsReachedFor}
 use Rattle.r4_build.specs.r4_measure.Examples.{fresh_root, some_numbers}
+use Rattle.r4_build.specs.r4_measure.r4_cell.declared.change.Fresh.{Fresh}
+use Rattle.r4_build.specs.r4_work.Working.{AreCellsIn}
 use Rattle.r4_build.specs.Building.{CanBuild, HaveLawfulKeys, LiesInLeaf, most_new}
 use Rattle.r4_build.specs.Built.{IsBuildable}
 use Rattle.r4_build.specs.r4_leaf_edits.Made.{spread_keys}
@@ -223,6 +225,14 @@ module _ (twig leaf : CellSeen) (above : HasAllKeys 22 2 twig) (below : HasAllKe
       let number : n.id ≡ 23 = ap (λ (x : Name). x.id) (named_down j c n e at) in
       absurd (omega (arith, number, id, high))
 
+  cells_in : (f : Fresh) → 2 ^ 63 ≤ f.next → AreCellsIn tree fresh_root f cells
+  cells_in f placed = record {
+    part = part;
+    stand = stand;
+    free = record { cells = λ i high end. no_cell i (omega (arith, high, placed)); names = λ i high end. no_name i (omega (arith, high, placed)) };
+    root_number = (lit< tt, refl);
+  }
+
   module _ (b : Option Body) (tails : spread_keys b ≡ None) (reads : Intervals) (e : Edits) (lawful : HaveLawfulKeys e) (room : HasRoomFor e leaf) where
     abbrev d : Demand Ask
     d = demand_of b e reads (changed e)
@@ -281,12 +291,7 @@ module _ (twig leaf : CellSeen) (above : HasAllKeys 22 2 twig) (below : HasAllKe
     is_reached = record {
       quiet = quiet;
       height = omega arith;
-      cells_in = record {
-        part = part;
-        stand = stand;
-        free = record { cells = λ i high end. no_cell i high; names = λ i high end. no_name i high };
-        root_number = (lit< tt, refl);
-      };
+      cells_in = cells_in some_numbers (omega arith);
       written = λ i (c, at, h). let (x, in_cells, id, is) = of_tree i c at in (x, in_cells, id);
     }
 
@@ -361,3 +366,9 @@ buildable c s cells small tails lawful room =
     subst (λ (cs : List CellSeen). IsBuildable c s small_scope (by_name cs) fresh_root some_numbers cs) (sym small.are)
     (buildable_two small.twig small.leaf small.above small.below small.pointer small.whole small.stands
     (body_on c s false) tails (reads_on c s false) (edits_on c s) lawful.keys room c s refl refl refl)
+
+-- the cells of a small volume are a part's
+pub small_cells : (cells : List CellSeen) → IsSmall cells → (f : Fresh) → 2 ^ 63 ≤ f.next → AreCellsIn (by_name cells) fresh_root f cells
+small_cells cells small f placed =
+    subst (λ (cs : List CellSeen). AreCellsIn (by_name cs) fresh_root f cs) (sym small.are)
+    (cells_in small.twig small.leaf small.above small.below small.pointer small.whole small.stands f placed)

@@ -2,8 +2,10 @@
 //! tests (docs/volume.md, "Building").
 #![tactic(auto)]
 
+mod mixed;
 mod small;
 
+pub use mixed::{byte, mixed_edits};
 pub use small::{
     ENTRY, FILE, FILE_STAT, NEW_FILE, ROOT, build_creation, build_refused, build_times,
     build_writing, fresh_cells, with_change,

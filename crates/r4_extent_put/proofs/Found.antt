@@ -1,6 +1,6 @@
 -- What may be put among the extents of cells, as the tests of them say.
-use Rattle.std.proofs.Common.{◌≡◌, inl, inr, suc, true, List, [], ◌∷◌, map, sym, ap, subst, arith}
-use Rattle.std.specs.Prelude.{◌==◌, ◌≤◌, Contains, Option, nat_le, nat_lt}
+use Rattle.std.proofs.Common.{◌≡◌, inl, inr, suc, true, List, [], ◌∷◌, map, sym, ap, arith}
+use Rattle.std.specs.Prelude.{◌==◌, Contains, Option, nat_le, nat_lt}
 use Rattle.std.specs.List.{list_all}
 use Rattle.std.proofs.lemmas.Bool.{and_parts, eqb-true, leb-true}
 use Rattle.r4_base.specs.Tree.{Root, Store}

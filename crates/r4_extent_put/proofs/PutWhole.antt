@@ -1,12 +1,11 @@
 -- The change where values come among extents, step by step: what each step needs, and what it leaves for the next one.
-use Rattle.std.proofs.Common.{◌≡◌, ℕ, ◌+◌, ◌*◌, ◌^◌, ◌<◌, ◌≤◌, Bool, true, List, length, refl, ap, subst, arith}
+use Rattle.std.proofs.Common.{◌≡◌, ℕ, ◌+◌, ◌*◌, ◌^◌, ◌<◌, ◌≤◌, Bool, List, length, refl, ap, subst, arith}
 use Rattle.std.specs.Prelude.{◌==◌, ◌||◌, Contains, None, Option, nat_lt}
 use Rattle.std.proofs.Math.Bool.{or_comm}
 use Rattle.std.proofs.lemmas.Bool.{and_parts, eqb-true}
-use Rattle.r4_base.specs.Key.{rank}
 use Rattle.r4_base.specs.Tree.{Node, Root, Store}
 use Rattle.r4_base.specs.Value.{Value}
-use Rattle.r4_content.specs.Edited.{Edits, changed}
+use Rattle.r4_content.specs.Edited.{Edits}
 use Rattle.r4_extent_among.proofs.Several.{can_each, leaves_each, sets_each}
 use Rattle.r4_extent_among.specs.AmongEach.{CanPutEach, HasPutEach, LeavesAll, MayPutEach, is_put_in_each}
 use Rattle.r4_extent_turned.proofs.r4_extent_growth.r4_extent_change.AtStart.{standing_in, start_few, start_measured}
@@ -27,7 +26,7 @@ use Rattle.r4_extent_turned.specs.r4_extent_growth.r4_measure.r4_cell.declared.c
 use Rattle.r4_extent_turned.specs.r4_extent_growth.r4_measure.r4_leaf.Units.{LeafUnit, leaf_bytes}
 use Rattle.r4_extent_turned.specs.r4_extent_growth.r4_measure.r4_patch.Effect.{HasEffect}
 use Rattle.r4_extent_turned.specs.r4_extent_growth.r4_measure.r4_patch.Joining.{patch_of_change}
-use Rattle.r4_extent_turned.specs.r4_extent_growth.r4_measure.r4_reach.Needs.{is_met, put_among, units_after}
+use Rattle.r4_extent_turned.specs.r4_extent_growth.r4_measure.r4_reach.Needs.{put_among, units_after}
 use Rattle.r4_extent_turned.specs.r4_extent_growth.r4_measure.r4_reach.Touched.{Body}
 use Rattle.r4_extent_turned.specs.r4_extent_growth.r4_measure.r4_work.Remaking.{Changes}
 use Rattle.r4_extent_turned.specs.r4_extent_growth.r4_measure.r4_work.Working.{HasNoEffect, IsStart, IsWorking, standing}

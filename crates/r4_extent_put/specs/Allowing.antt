@@ -1,6 +1,6 @@
 -- When a command's whole change may be made of the cells of its task, where values come among
 -- extents, as far as these cells tell it (docs/volume.md, "Bodies in extents"). A key is its rank.
-use Rattle.std.specs.Prelude.{◌≡◌, ◌+◌, ◌-◌, ◌/◌, ◌≤◌, ◌&&◌, nat_le, not, Bool, true, List}
+use Rattle.std.specs.Prelude.{◌+◌, ◌-◌, ◌/◌, ◌≤◌, ◌&&◌, nat_le, not, Bool, true, List}
 use Rattle.std.specs.Prelude.{Contains, Option, None, Some, length}
 use Rattle.std.specs.List.{list_all}
 use Rattle.r4_content.specs.Edited.{Edits}

@@ -39,7 +39,7 @@ numbers_put b e cells = sum_by (numbers_among b e) (putting_among b e cells) + 6
 
 -- No body stands in extents afterwards. The cells are a part's and measured, and the budget has
 -- nothing for leaves. Each twig among whose extents values come may take them. There are numbers
--- for what these take.
+-- enough.
 pub record CanPut (b : Option Body) (e : Edits) (u : Budget) (t : Store Value) (r : Root)
     (f : Fresh) (cells : List CellSeen) : Type 0 where
   pub in_leaves : IsInLeaves b

@@ -1,6 +1,6 @@
 -- The edits of one leaf after another, each as long as what stands suffices for it (docs/volume.md, "Bodies in
 -- extents"). A key is its rank.
-use Rattle.std.specs.Prelude.{ℕ, ◌≤◌, ◌∷◌, List}
+use Rattle.std.specs.Prelude.{ℕ, ◌∷◌, List}
 use Rattle.r4_base.specs.Tree.{Root, Store}
 use Rattle.r4_base.specs.Value.{Value}
 use Rattle.r4_build.specs.Building.{set_by}

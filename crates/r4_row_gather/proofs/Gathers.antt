@@ -1,16 +1,16 @@
--- Twigs whose pieces are parted anew while leaves without items go are a change without effect.
+-- Twigs whose pieces are parted anew, while leaves go or begin later, are a change without effect.
 use Rattle.std.proofs.Common.{◌≡◌, ◌≢◌, ◌⊎◌, inl, inr, ℕ, suc, ◌<◌, ◌≤◌, false, List, [], ◌∷◌, ◌++◌, length, refl, sym, ap, subst}
 use Rattle.std.proofs.Common.{◌∙◌, arith}
 use Rattle.std.specs.Prelude.{◌↔◌, ◌&&◌, if◌then◌else◌, not, nat_le, nat_lt, Bool, true, Contains, None, Option, Some}
 use Rattle.std.proofs.lemmas.Bool.{false≢true}
 use Rattle.std.proofs.lemmas.Bool.Decides.{nat_tests}
 use Rattle.std.proofs.lemmas.List.Kept.{AllPairs-filter}
-use Rattle.std.proofs.lemmas.List.Elements.{Contains-append_cases, Contains-append_right}
+use Rattle.std.proofs.lemmas.List.Elements.{Contains-append_cases, Contains-append_left, Contains-append_right}
 use Rattle.std.proofs.lemmas.Option.{same_Some}
 use Rattle.r4_base.specs.Cell.{cell_of, units_in}
 use Rattle.r4_base.specs.Key.{rank}
 use Rattle.r4_base.specs.Node.{items_of}
-use Rattle.r4_base.specs.Tree.{Name, Node, Root, Store}
+use Rattle.r4_base.specs.Tree.{IsNode, Name, Root, Store}
 use Rattle.r4_base.specs.Value.{Value}
 use Rattle.r4_branch.specs.Pieces.{AreTwigPieces, Follow as PiecesFollow, names_of, next_of, piece_end, units_of}
 use Rattle.r4_branch.specs.declared.piece.TwigPart.{TwigPart}
@@ -33,7 +33,7 @@ use Rattle.r4_path.specs.Steps.{root_pair}
 use Rattle.r4_rows.proofs.RowUnits.{in_units, of_units, same_bool}
 use Rattle.r4_rows.proofs.SlumPieces.{slum_pieces, twig_pieces}
 use Rattle.r4_rows.specs.Fewest.{joined}
-use Rattle.r4_rows.specs.Packed.{AreTheirPieces}
+use Rattle.r4_rows.specs.Packed.{AreSlumPieces, AreTheirPieces}
 use Rattle.r4_rows.specs.Rows.{AreNamedAfter, AreThere, Row, news_in, olds_in}
 use Rattle.r4_rows.specs.Units.{UnitOf}
 use Rattle.r4_squeeze.proofs.SqueezedSlums.{same_range}
@@ -44,53 +44,13 @@ use Rattle.r4_row_edit.proofs.Shifts.{in_range}
 use Rattle.r4_row_edit.specs.Climbing.{AreFirst, RowsOver}
 use Rattle.r4_row_edit.specs.Parting.{CanPart, IsParted, MayPart}
 use Rattle.r4_row_edit.specs.Shifting.{IsShiftIn, IsShifted, PiecesTakeEffect}
-use Rattle.r4_row_gather.proofs.Going.{going_low, going_named, of_names, staying_follow, staying_units, to_names}
-use Rattle.r4_row_gather.specs.Clearing.{Fate, Goes, MayHave, Stays, going, is_in_way, is_pointer, staying}
+use Rattle.r4_row_gather.proofs.Going.{coming_named, going_low, going_named, of_names, staying_follow, staying_units, to_names}
+use Rattle.r4_row_gather.proofs.Leaves.{came_id, came_nodes, came_unit, coming_distinct, going_distinct, gone_unit}
+use Rattle.r4_row_gather.specs.Clearing.{Fate, MayHave, coming, going, is_in_way, is_pointer, staying}
 use Rattle.r4_row_gather.specs.Finding.{IsRowFrom}
 use Rattle.r4_row_gather.specs.Gathering.{IsStill, StandIn}
 use Rattle.r4_row_gather.specs.Parting.{AreParts}
 use Rattle.r4_row_gather.specs.Rising.{AreRowsOver}
-
--- ---- leaves that go
-
--- a leaf without items has no units
-no_units : (level lo hi : ℕ) (b : List ℕ) → level ≡ 1 → items_of b ≡ [] → (cell_of level lo hi b).units ≡ []
-unfolding cell_of units_in
-no_units level lo hi b leaf empty = rw leaf (rw empty refl)
-
-going_empty : (hi : ℕ) (ps : List TwigPiece) (fs : List Fate) → MayHave hi ps fs → (c : CellSeen)
-    → Contains (going fs) c → (c.level ≡ 1) × ((node_of c).units ≡ [])
-going_empty hi [] [] may c at = absurd (none c at)
-going_empty hi [] (x ∷ fs) may c at = absurd may
-going_empty hi (p ∷ ps) [] may c at = absurd may
-going_empty hi (p ∷ ps) (Stays ∷ fs) may c at = going_empty hi ps fs may.1 c at
-going_empty hi (p ∷ ps) (Goes d ∷ fs) may c at = elim (cases d c (going fs) at) [
-  | inl is ↦ subst (λ (x : CellSeen). (x.level ≡ 1) × ((node_of x).units ≡ [])) (sym is) (
-      may.0.level,
-      no_units d.level (rank d.lo) (rank d.hi) d.block may.0.level may.0.empty,
-    )
-  | inr more ↦ going_empty hi ps fs may.1 c more
-]
-
--- those of a tree have each a number of its own
-going_distinct : (t : Store Value) (lo hi : ℕ) (ps : List TwigPiece) (fs : List Fate) → PiecesFollow lo hi ps
-    → MayHave hi ps fs → AreThere t (going fs) → Distinct (going fs)
-going_distinct t lo hi [] [] f may there = tt
-going_distinct t lo hi [] (x ∷ fs) f may there = absurd may
-going_distinct t lo hi (p ∷ ps) [] f may there = absurd may
-going_distinct t lo hi (p ∷ ps) (Stays ∷ fs) f may there = going_distinct t (piece_end p) hi ps fs f.2 may.1 there
-going_distinct t lo hi (p ∷ ps) (Goes d ∷ fs) f may there = (
-  (λ c at same.
-    let (low, leaf) = going_low (piece_end p) hi ps fs f.2 may.1 c at in
-    let one = there d (here d (going fs)) in
-    let two = there c (later d c (going fs) at) in
-    let nodes = same_Some (node_of d) (node_of c) (sym one ∙ (ap t same ∙ two)) in
-    let los = sym (lo_is d) ∙ (ap (λ (x : Node Value). x.lo) nodes ∙ lo_is c) in
-    let begin = may.0.begins in
-    let end = has_end p f.1 in
-    omega (arith, low, los, begin, end)),
-  going_distinct t (piece_end p) hi ps fs f.2 may.1 (λ c at. there c (later d c (going fs) at)),
-)
 
 -- ---- the levels of the rows above
 
@@ -142,6 +102,13 @@ out_of_way from to key p id points at out = by_tests (nat_le from (rank p.key)) 
 
 -- ---- names of what stands
 
+ids_have : (cells : List CellSeen) (c : CellSeen) → Contains cells c → Contains (ids_of cells) c.id
+ids_have [] c at = absurd (none c at)
+ids_have (d ∷ cells) c at = elim (cases d c cells at) [
+  | inl is ↦ subst (λ (x : CellSeen). Contains (ids_of (d ∷ cells)) x.id) (sym is) (here d.id (ids_of cells))
+  | inr more ↦ later d.id c.id (ids_of cells) (ids_have cells c more)
+]
+
 not_among : (ids : List ℕ) (cells : List CellSeen) (x : CellSeen) → Contains (without ids cells) x
     → Contains ids x.id → ⊥
 not_among ids [] x at there = none x at
@@ -178,6 +145,9 @@ module _ (cells row : List CellSeen) (begin hi : ℕ) (is : IsRowFrom cells 2 be
   had : AreTwigPieces is.lo hi (joined each)
   had = twig_pieces row is.lo hi each is.along is.some their
 
+  slum : AreSlumPieces row is.lo hi (joined each) each
+  slum = slum_pieces row is.lo hi each is.along is.some their
+
   some_of : (ps : List TwigPiece) → next_of hi ps ≡ is.lo → 1 ≤ length ps
   some_of [] e = let less = is.some in absurd (omega (arith, e, less))
   some_of (p ∷ ps) e = omega arith
@@ -204,7 +174,7 @@ module _ (cells row : List CellSeen) (begin hi : ℕ) (is : IsRowFrom cells 2 be
   can_part = record { may = may_part; up = over.up }
 
   abbrev low : Row
-  low = record { old = going fates; new = [] }
+  low = record { old = going fates; new = coming fates }
 
   -- ---- its cells
 
@@ -231,20 +201,29 @@ module _ (cells row : List CellSeen) (begin hi : ℕ) (is : IsRowFrom cells 2 be
           let (cs, m, there) = olds_first shifted.more above shifted.climbed.olds x high in over.among cs m x there
     ]
 
+    gone_old : (x : CellSeen) → Contains (going fates) x → Contains c.old x
+    gone_old x at = subst (λ cs. Contains cs x) (sym shifted.old)
+        (Contains-append_left (going fates) (row ++ olds_in shifted.more) x at)
+
     pub new_numbers : (x : CellSeen) → Contains c.new x → Contains (ids_of c.old) x.id
     new_numbers x at = elim (made.numbers x at) [
-      | inl below ↦ absurd (none x below)
+      | inl below ↦
+          let (leaf, (d, m, same)) = came_id hi (joined each) fates may x below in
+          subst (Contains (ids_of c.old)) (sym same) (ids_have c.old d (gone_old d m))
       | inr old ↦ old
     ]
 
     new_twig : (x : CellSeen) → Contains c.new x → x.level ≡ 2 → Contains shifted.cells x
-    new_twig x at two = elim (Contains-append_cases shifted.cells (news_in shifted.more shifted.over) x
+    new_twig x at two = elim (Contains-append_cases (coming fates) (shifted.cells ++ news_in shifted.more shifted.over) x
         (subst (λ cs. Contains cs x) shifted.new at)) [
-      | inl mine ↦ mine
-      | inr high ↦
-          let up = news_above 2 (record { old = row; new = shifted.cells }) shifted.more shifted.climbed.points x
-          (subst (λ o. Contains (news_in shifted.more o) x) over_none high) in
-          absurd (omega (arith, up, two))
+      | inl came ↦ let leaf = (came_id hi (joined each) fates may x came).0 in absurd (omega (arith, leaf, two))
+      | inr rest ↦ elim (Contains-append_cases shifted.cells (news_in shifted.more shifted.over) x rest) [
+        | inl mine ↦ mine
+        | inr high ↦
+            let up = news_above 2 (record { old = row; new = shifted.cells }) shifted.more shifted.climbed.points x
+            (subst (λ o. Contains (news_in shifted.more o) x) over_none high) in
+            absurd (omega (arith, up, two))
+      ]
     ]
 
     gone_leaf : (x : CellSeen) → Contains c.old x → x.level ≡ 1 → Contains (going fates) x
@@ -277,28 +256,34 @@ module _ (cells row : List CellSeen) (begin hi : ℕ) (is : IsRowFrom cells 2 be
     named : (to : ℕ) → to ≡ hi → (n : Name) → Contains (names_of to (joined parts)) n
         ↔ AreNamedAfter low (record { old = row; new = [] }) n
     named to same n = (
-      (λ at. let (kept, out) = of_names is.lo hi (joined each) fates had.follow may n
-          (subst (λ ps. Contains (names_of hi ps) n) are.are (subst (λ k. Contains (names_of k (joined parts)) n) same at)) in
-          inl (((slum_pieces row is.lo hi each is.along is.some their).names n).1 kept, out)),
-      (λ after. elim after [
-        | inl (naming, out) ↦ subst (λ k. Contains (names_of k (joined parts)) n) (sym same)
-            (subst (λ ps. Contains (names_of hi ps) n) (sym are.are)
-            (to_names hi (joined each) fates may n
-            (((slum_pieces row is.lo hi each is.along is.some their).names n).0 naming) out))
-        | inr (c, at, same_name) ↦ absurd (none c at)
+      (λ at. elim (of_names is.lo hi (joined each) fates had.follow may n (subst (λ ps. Contains (names_of hi ps) n) are.are
+          (subst (λ k. Contains (names_of k (joined parts)) n) same at))) [
+        | inl (kept, out) ↦ inl ((slum.names n).1 kept, out)
+        | inr comes ↦ inr comes
       ]),
+      (λ after. subst (λ k. Contains (names_of k (joined parts)) n) (sym same)
+          (subst (λ ps. Contains (names_of hi ps) n) (sym are.are) (elim after [
+            | inl (naming, out) ↦ to_names hi (joined each) fates may n ((slum.names n).0 naming) out
+            | inr (d, at, name) ↦ subst (Contains (names_of hi (staying (joined each) fates))) (sym name)
+                (coming_named hi (joined each) fates may d at)
+          ]))),
     )
+
+    gone_nodes : (c : CellSeen) → Contains (going fates) c → IsNode (node_of c)
+    gone_nodes c at = within.part.nodes c.id (node_of c) (gone_there c at)
+
+    once : Distinct (going fates)
+    once = going_distinct hi t is.lo (joined each) fates had.follow may gone_there
 
     pub shift_in : IsShiftIn t r low row (joined parts) above no_fresh
     shift_in = record {
       part = within.part;
       gone = gone_there;
-      low_old = λ c at. let (leaf, empty) = going_empty hi (joined each) fates may c at in omega (arith, leaf);
-      low_new = λ c at. absurd (none c at);
-      nodes = λ c at. absurd (none c at);
+      low_old = λ c at. let leaf = (going_low is.lo hi (joined each) fates had.follow may c at).1 in omega (arith, leaf);
+      low_new = λ d at. let leaf = (came_id hi (joined each) fates may d at).0 in omega (arith, leaf);
+      nodes = came_nodes hi (joined each) fates may gone_nodes;
       there = λ c at. within.stand c (is.among c at);
-      leads = λ c at. ((slum_pieces row is.lo hi each is.along is.some their).names _).1
-          (going_named hi (joined each) fates may c at);
+      leads = λ c at. (slum.names _).1 (going_named hi (joined each) fates may c at);
       names = λ from to along n. named to (let (l, a, b) = same_range 2 2 from to is.lo hi row
           (some_cells 2 is.lo hi row is.some is.along) along is.along in b) n;
       stand = λ cs at c m. within.stand c (over.among cs at c m);
@@ -308,9 +293,10 @@ module _ (cells row : List CellSeen) (begin hi : ℕ) (is : IsRowFrom cells 2 be
         names = λ i low less. absurd (omega (arith, less));
       };
       below = record {
-        old = have_names (going fates) (going_distinct t is.lo hi (joined each) fates had.follow may gone_there);
-        new = have_names [] tt;
-        each = λ c at. absurd (none c at);
+        old = have_names (going fates) once;
+        new = have_names (coming fates) (coming_distinct hi (joined each) fates may once);
+        each = λ d at. let (leaf, (c, m, same)) = came_id hi (joined each) fates may d at in
+            inl (subst (Contains (ids_of (going fates))) (sym same) (ids_have (going fates) c m));
       };
     }
 
@@ -332,19 +318,32 @@ module _ (cells row : List CellSeen) (begin hi : ℕ) (is : IsRowFrom cells 2 be
       held = λ k at. absurd cc;
       there = λ k u at. absurd cc;
       others = λ k u at. (
-        (λ new. let (c, m, unit, kind) = twigs_of k u cs row twigs in_row same new in
-            (c, Contains-append_right (going fates) row c m, unit, kind)),
+        (λ (d, m, unit, kind). elim (Contains-append_cases (coming fates) cs d m) [
+          | inl came ↦
+              let (c, gone, its) = came_unit hi (joined each) fates may d came (k, u.0) unit in
+              (c, Contains-append_left (going fates) row c gone, its,
+              same_bool d.level c.level u.1 (leaves d came c gone) kind)
+          | inr new ↦ let (c, there, its, alike) = twigs_of k u cs row twigs in_row same (d, new, unit, kind) in
+              (c, Contains-append_right (going fates) row c there, its, alike)
+        ]),
         (λ (c, m, unit, kind). elim (Contains-append_cases (going fates) row c m) [
-          | inl gone ↦ let (leaf, empty) = going_empty hi (joined each) fates may c gone in
-              absurd (none (k, u.0) (subst (λ us. Contains us (k, u.0)) empty unit))
-          | inr stays ↦ twigs_of k u row cs in_row twigs (sym same) (c, stays, unit, kind)
+          | inl gone ↦
+              let (d, came, its) = gone_unit hi (joined each) fates may gone_nodes c gone (k, u.0) unit in
+              (d, Contains-append_left (coming fates) cs d came, its,
+              same_bool c.level d.level u.1 (sym (leaves d came c gone)) kind)
+          | inr stays ↦ let (d, there, its, alike) = twigs_of k u row cs in_row twigs (sym same) (c, stays, unit, kind) in
+              (d, Contains-append_right (coming fates) cs d there, its, alike)
         ]),
       );
     }
       where
         same : units_of_cells cs ≡ units_of_cells row
         same = units ∙ (ap units_of are.are ∙ (staying_units hi (joined each) fates may
-            ∙ sym (slum_pieces row is.lo hi each is.along is.some their).units))
+            ∙ sym slum.units))
+
+        leaves : (d : CellSeen) → Contains (coming fates) d → (c : CellSeen) → Contains (going fates) c → d.level ≡ c.level
+        leaves d came c gone = (came_id hi (joined each) fates may d came).0
+            ∙ sym (going_low is.lo hi (joined each) fates had.follow may c gone).1
 
     pub still : (c : Change) → IsParted low row parts above c → IsStill t r c
     still c made =

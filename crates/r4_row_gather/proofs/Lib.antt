@@ -1,6 +1,7 @@
 pub mod Found
 pub mod Gathers
 pub mod Going
+pub mod Leaves
 pub mod PartsTogether
 pub mod Planned
 pub mod PlansMade

@@ -1,5 +1,8 @@
--- Leaves without units that go out of the way of what comes (docs/volume.md, "Bodies in extents"). A key is its rank.
-use Rattle.std.specs.Prelude.{◌≡◌, ℕ, ◌&&◌, Bool, true, false, List, [], ◌∷◌, ◌++◌, nat_le, nat_lt, Contains}
+-- Leaves that go out of the way of what comes, or begin behind it (docs/volume.md, "Bodies in extents"). A key is its
+-- rank.
+use Rattle.std.specs.Prelude.{◌≡◌, ℕ, ◌<◌, ◌≤◌, ◌&&◌, Bool, true, false, List, [], ◌∷◌, ◌++◌}
+use Rattle.std.specs.Prelude.{map, nat_le, nat_lt, Contains}
+use Rattle.std.specs.Arc.{arc_value}
 use Rattle.r4_base.specs.Key.{rank}
 use Rattle.r4_base.specs.Node.{items_of}
 use Rattle.r4_branch.specs.Pieces.{next_of}
@@ -7,6 +10,7 @@ use Rattle.r4_branch.specs.declared.piece.TwigPart.{TwigPart}
 use Rattle.r4_branch.specs.declared.piece.TwigPart.TheVariants.{Pointer, Blocks}
 use Rattle.r4_branch.specs.declared.piece.TwigPiece.{TwigPiece}
 use Rattle.r4_cell.specs.Seen.{CellSeen}
+use Rattle.r4_work.specs.r4_edit.LeafParts.{IsRightPart}
 use Rattle.r4_row_gather.specs.declared.clearing.Clearing.{Clearing}
 
 -- ---- what stands in the way
@@ -26,60 +30,92 @@ begins_in_way from to (p ∷ ps) = is_in_way from to p
 
 -- ---- what becomes of pieces
 
--- a piece stays; or the leaf goes that it points to
+-- A piece stays; or the leaf goes that it points to; or another one comes in the leaf's place, which begins later.
 pub data Fate : Type 0 where
   Stays : Fate
   Goes : CellSeen → Fate
+  Begins : (leaf later : CellSeen) → Fate
 
--- the pieces that stay
+-- the pieces that stay, each with the key with which it begins then
 abbrev pub staying : List TwigPiece → List Fate → List TwigPiece
 staying [] fates = []
 staying (p ∷ ps) [] = []
 staying (p ∷ ps) (Stays ∷ fates) = p ∷ staying ps fates
 staying (p ∷ ps) (Goes c ∷ fates) = staying ps fates
+staying (p ∷ ps) (Begins c d ∷ fates) = record p { key = d.lo } ∷ staying ps fates
 
--- the leaves that go
+-- the leaves that go, and those that come
 abbrev pub going : List Fate → List CellSeen
 going [] = []
 going (Stays ∷ fates) = going fates
 going (Goes c ∷ fates) = c ∷ going fates
+going (Begins c d ∷ fates) = c ∷ going fates
 
--- The cell is a leaf without items, to which the piece points, up to a key.
-pub record IsEmptied (end : ℕ) (p : TwigPiece) (c : CellSeen) : Type 0 where
+abbrev pub coming : List Fate → List CellSeen
+coming [] = []
+coming (Stays ∷ fates) = coming fates
+coming (Goes c ∷ fates) = coming fates
+coming (Begins c d ∷ fates) = d ∷ coming fates
+
+-- The cell is the leaf to which the piece points, up to a key.
+pub record IsLeafAt (end : ℕ) (p : TwigPiece) (c : CellSeen) : Type 0 where
   pub level : c.level ≡ 1
   pub points : p.part ≡ Pointer (record { 0 = c.id })
   pub begins : rank c.lo ≡ rank p.key
   pub ends : rank c.hi ≡ end
-  pub empty : items_of c.block ≡ []
+  pub some : rank c.lo < rank c.hi
 
--- Leaves without items go, to which the pieces point, and the range of no leaf that stays becomes longer.
+-- The second leaf is the first one from its first unit on.
+pub record IsShortened (leaf later : CellSeen) : Type 0 where
+  pub part : IsRightPart leaf leaf.lo leaf.id later
+  pub behind : rank leaf.lo ≤ rank later.lo
+  pub within : rank later.lo < rank leaf.hi
+
+-- Leaves to which the pieces point go where they have no items, or begin later; and no leaf's range becomes longer.
 abbrev pub MayHave : (hi : ℕ) → List TwigPiece → List Fate → Type 0
 MayHave hi [] [] = Unit {0}
 MayHave hi [] (f ∷ fates) = ⊥
 MayHave hi (p ∷ ps) [] = ⊥
 MayHave hi (p ∷ ps) (Stays ∷ fates) =
     (is_pointer p.part ≡ true → next_of hi (staying ps fates) ≡ next_of hi ps) × MayHave hi ps fates
-MayHave hi (p ∷ ps) (Goes c ∷ fates) = IsEmptied (next_of hi ps) p c × MayHave hi ps fates
+MayHave hi (p ∷ ps) (Goes c ∷ fates) =
+    IsLeafAt (next_of hi ps) p c × (items_of c.block ≡ []) × MayHave hi ps fates
+MayHave hi (p ∷ ps) (Begins c d ∷ fates) = IsLeafAt (next_of hi ps) p c × IsShortened c d
+    × (next_of hi (staying ps fates) ≡ next_of hi ps) × MayHave hi ps fates
 
--- Behind other pieces come those of these that stay, and behind other leaves those of the cells that go. The first piece
--- stays, if it does not point to a leaf that begins in the range.
-pub record AreSortedOut (cells : List CellSeen) (from to hi : ℕ) (ps before kept : List TwigPiece)
-    (leaves gone : List CellSeen) : Type 0 where
+-- ---- one piece after the other
+
+-- Behind other pieces comes one that points to a leaf, from the leaf's first unit on, which is not below the key; behind
+-- other leaves comes the leaf that goes for it, and the one that comes.
+pub record IsBegunLater (to : ℕ) (p : TwigPiece) (leaf : CellSeen) (before after : Clearing) : Type 0 where
+  pub later : CellSeen
+  pub is : IsShortened leaf later
+  pub from : to ≤ rank later.lo
+  pub stay : after.pieces.items ≡ before.pieces.items ++ record p { key = later.lo } ∷ []
+  pub go : map (λ c. arc_value c) after.gone.items ≡ map (λ c. arc_value c) before.gone.items ++ leaf ∷ []
+  pub come : map (λ c. arc_value c) after.come.items ≡ map (λ c. arc_value c) before.come.items ++ later ∷ []
+
+-- Behind other pieces come those of these that stay, behind other leaves those that go, and behind others those that come.
+-- The first piece stays, if it does not point to a leaf that begins in the range. None that stays does.
+pub record AreSortedOut (cells : List CellSeen) (from to hi : ℕ) (ps : List TwigPiece) (before after : Clearing)
+    : Type 0 where
   pub fates : List Fate
   pub may : MayHave hi ps fates
-  pub stay : kept ≡ before ++ staying ps fates
-  pub go : gone ≡ leaves ++ going fates
+  pub stay : after.pieces.items ≡ before.pieces.items ++ staying ps fates
+  pub go : map (λ c. arc_value c) after.gone.items ≡ map (λ c. arc_value c) before.gone.items ++ going fates
+  pub come : map (λ c. arc_value c) after.come.items ≡ map (λ c. arc_value c) before.come.items ++ coming fates
   pub among : (c : CellSeen) → Contains (going fates) c → Contains cells c
   pub first : begins_in_way from to ps ≡ false → next_of hi (staying ps fates) ≡ next_of hi ps
   pub clear : (p : TwigPiece) → Contains (staying ps fates) p → is_in_way from to p ≡ false
 
--- Of the pieces those go that point to leaves which begin in the range. These leaves go, have no items and are among the
--- cells. The first piece stays.
+-- Of these pieces, those that point to leaves which begin in the range go, or point to leaves that begin behind it. The
+-- leaves in whose place nothing comes have no items. The first piece stays.
 pub record IsCleared (cells : List CellSeen) (from to hi : ℕ) (ps : List TwigPiece) (x : Clearing) : Type 0 where
   pub fates : List Fate
   pub may : MayHave hi ps fates
   pub pieces : x.pieces.items ≡ staying ps fates
-  pub gone : x.gone ≡ going fates
-  pub among : (c : CellSeen) → Contains x.gone c → Contains cells c
+  pub gone : map (λ c. arc_value c) x.gone.items ≡ going fates
+  pub come : map (λ c. arc_value c) x.come.items ≡ coming fates
+  pub among : (c : CellSeen) → Contains (going fates) c → Contains cells c
   pub first : next_of hi (staying ps fates) ≡ next_of hi ps
-  pub clear : (p : TwigPiece) → Contains x.pieces.items p → is_in_way from to p ≡ false
+  pub clear : (p : TwigPiece) → Contains (staying ps fates) p → is_in_way from to p ≡ false

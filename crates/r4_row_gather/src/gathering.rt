@@ -13,7 +13,7 @@ use r4_base::{Memory, TWIG};
 use r4_cell::{Cell, Cells, Change};
 use r4_patch::follow;
 use r4_path::add;
-use r4_row_edit::{RowChange, shift_parted};
+use r4_row_edit::shift_parted;
 use r4_work::KeyRange;
 use std::alloc::Global;
 use std::sync::Arc;
@@ -43,11 +43,7 @@ pub fn gather(
     let Some(above) = rows_over(alloc, cells, plan.row.as_slice())? else {
         return Ok(None);
     };
-    let Plan { row, gone, parts } = plan;
-    let below = RowChange {
-        old: gone,
-        new: Cells::new(alloc),
-    };
+    let Plan { row, below, parts } = plan;
     let change = shift_parted(alloc, below, parts.as_slice(), row, above)?;
     if !has_twig_of(change.new.as_slice(), keys) {
         return Ok(None);

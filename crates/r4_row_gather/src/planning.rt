@@ -10,21 +10,22 @@ use crate::finding::row_among;
 use crate::parting::parted;
 use r4_base::{Key, Memory, TWIG};
 use r4_cell::{Cell, Cells};
+use r4_row_edit::RowChange;
 use r4_squeeze::pieces_of_all;
 use r4_work::{KeyRange, TwigPiece};
 use std::alloc::Global;
 use std::sync::Arc;
 
-/// Twigs beside each other, the leaves without units that go below them, and what pieces the twigs get, part by part.
+/// Twigs beside each other, the leaves that go and come below them, and what pieces the twigs get, part by part.
 #[derive(Drop)]
 pub(crate) struct Plan {
     pub row: Cells,
-    pub gone: Cells,
+    pub below: RowChange,
     pub parts: Vec<Vec<TwigPiece>>,
 }
 
-/// What twigs get so that all keys of a range come below one. Where leaves without units stand in the range they go, if
-/// they may. The only error is want of memory (docs/volume.md, "Bodies in extents").
+/// What twigs get so that all keys of a range come below one. Where leaves begin in the range they go, or begin behind it,
+/// if they may. The only error is want of memory (docs/volume.md, "Bodies in extents").
 pub(crate) fn planned(
     alloc: Global,
     cells: &[Arc<Cell>],
@@ -42,7 +43,7 @@ pub(crate) fn planned(
     gathering(alloc, cells, keys)
 }
 
-// A plan by which leaves go.
+// A plan by which leaves go or begin later.
 fn clearing(alloc: Global, cells: &[Arc<Cell>], keys: &KeyRange) -> Result<Option<Plan>, Memory>
     ensures { IfOk result (λ o. IfSome o (IsPlanOf (map (λ c. arc_value c) cells.now)
         (rank keys.now.from) (rank keys.now.to))) }
@@ -56,11 +57,15 @@ fn clearing(alloc: Global, cells: &[Arc<Cell>], keys: &KeyRange) -> Result<Optio
     let Some(rest) = cleared(alloc, cells, pieces.as_slice(), hi, keys)? else {
         return Ok(None);
     };
-    let Clearing { pieces, gone } = rest;
+    let Clearing { pieces, gone, come } = rest;
     let Some(parts) = parted(alloc, pieces.as_slice(), keys, twigs.len())? else {
         return Ok(None);
     };
-    Ok(Some(Plan { row, gone, parts }))
+    let below = RowChange {
+        old: Cells::from_vec(gone),
+        new: Cells::from_vec(come),
+    };
+    Ok(Some(Plan { row, below, parts }))
 }
 
 // Where the twig among some cells begins that ends at a key; or the key itself, where there is none.
@@ -91,6 +96,9 @@ fn gathering(alloc: Global, cells: &[Arc<Cell>], keys: &KeyRange) -> Result<Opti
     let Some(parts) = parted(alloc, pieces.as_slice(), keys, twigs.len())? else {
         return Ok(None);
     };
-    let gone = Cells::new(alloc);
-    Ok(Some(Plan { row, gone, parts }))
+    let below = RowChange {
+        old: Cells::new(alloc),
+        new: Cells::new(alloc),
+    };
+    Ok(Some(Plan { row, below, parts }))
 }

@@ -1,62 +1,17 @@
 //! Which edits each of three leaves gets, where the edits lie across their borders.
 
-ghost use Rattle.std.specs.Prelude.{◌≡◌, IfOk};
+ghost use Rattle.std.specs.Prelude.{◌≡◌};
 ghost use Rattle.r4_content.specs.Held.{edits_of};
-ghost use Rattle.r4_base.specs.Key.{rank};
-ghost use Rattle.r4_base.specs.Volume.{byte_rank};
-ghost use Rattle.r4_build_testing.specs.Commands.{file, mixed};
+ghost use Rattle.r4_build_testing.specs.Commands.{mixed};
 
-use r4_base::{Bytes, Key, STAT, TAIL, Value};
-use r4_build_testing::{FILE, ROOT};
+use r4_base::{Key, STAT, TAIL};
+use r4_build_testing::{byte, mixed_edits};
 use r4_cell::{least, top};
-use r4_content::{ByteRun, Edits, FilledInterval, Interval, Reply};
+use r4_content::Edits;
 use r4_leaf::{Given, KeyRange};
 use r4_leaf_edits::{LeafEdits, edits_of_leaf, touches_leaf};
 use std::alloc::Global;
 use std::test::Fail;
-
-// The key of a byte of the file.
-#[tactic(auto, unfolding(r4_base::specs::Key::rank))]
-fn byte(offset: u64) -> Key
-    ensures { rank result ≡ byte_rank file offset }
-{
-    Key {
-        el: [676, FILE.ordering, 65_536, offset],
-    }
-}
-
-// Bytes 2 to 19 go, bytes 4 to 7 become 7, bytes 10 to 14 are others, and the root gets attributes.
-fn edits(alloc: Global) -> Result<Edits, Fail>
-    ensures { IfOk result (λ e. edits_of e ≡ mixed) }
-{
-    let mut cuts = Vec::new(alloc);
-    cuts.push(Interval {
-        from: byte(2),
-        to: byte(20),
-    })?;
-    let mut fills = Vec::new(alloc);
-    fills.push(FilledInterval {
-        from: byte(4),
-        to: byte(8),
-        byte: 7,
-    })?;
-    let bytes = Bytes::from_vec(alloc, Vec::from_array(alloc, *b"hello")?)?;
-    let mut runs = Vec::new(alloc);
-    runs.push(ByteRun {
-        from: byte(10),
-        bytes,
-    })?;
-    let mut puts = Vec::new(alloc);
-    puts.push((least(), Value::Attr(ROOT)))?;
-    Ok(Edits {
-        cuts,
-        zeros: Vec::new(alloc),
-        fills,
-        runs,
-        puts,
-        reply: Reply::Okay,
-    })
-}
 
 // The offsets of the ranges that are cut out; of the root's stat data, 0 and 1.
 fn ranges(alloc: Global, gets: &LeafEdits<'_>) -> Result<Vec<(u64, u64)>, Fail> {
@@ -112,7 +67,7 @@ fn gets(
 #[test]
 fn edits_are_parted_at_borders(rt: HostRuntime) -> Result<(), Fail> {
     let alloc = rt.alloc();
-    let edits = edits(alloc)?;
+    let edits = mixed_edits(alloc)?;
     let wanted: [(Key, Key, &[(u64, u64)], &[Row]); 4] = [
         (
             least(),

@@ -2,6 +2,7 @@ use Rattle.std.proofs.Common.{◌≡◌, map, rules, subst, sym, true}
 use Rattle.std.specs.Prelude.{IfSome}
 use Rattle.std.specs.Arc.{arc_value}
 use Rattle.r4_base.specs.Key.{rank}
+use Rattle.r4_row_edit.specs.Climbing.{row_of}
 use Rattle.r4_row_edit.specs.Parting.{CanPart, IsParted}
 use Rattle.r4_row_gather.specs.Gathering.{HasTwigOf}
 use Rattle.r4_row_gather.specs.Planning.{IsPlanOf}
@@ -32,9 +33,7 @@ returns c =
     c.in_ok-above.ensures) in
     let change = c.in_ok-change.change in
     let found : c.has_twig_of.result ≡ true = search rules in
-    let parted = subst (λ none. IsParted (record { old = c.in-Some.plan.gone; new = none }) c.in-Some.plan.row
-    (map (λ p. p.items) c.in-Some.plan.parts.items) c.in-Some-2.above.items change) c.new.ensures
-    (subst (λ ps. IsParted (record { old = c.in-Some.plan.gone; new = c.new.result }) c.in-Some.plan.row
-    (map (λ p. p.items) ps) c.in-Some-2.above.items change) c.as_slice-2.ensures.value c.in_ok-change.ensures) in
+    let parted = subst (λ ps. IsParted (row_of c.in-Some.plan.below) c.in-Some.plan.row (map (λ p. p.items) ps)
+    c.in-Some-2.above.items change) c.as_slice-2.ensures.value c.in_ok-change.ensures in
     plan_gathers cells from to c.in-Some.plan plan c.in-Some-2.above.items over change c.in_ok-cells.cells parted
     (subst (λ cs. HasTwigOf cs from to) c.as_slice-3.ensures (c.has_twig_of.ensures found)) c.in_ok-cells.ensures

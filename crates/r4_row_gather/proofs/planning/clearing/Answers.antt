@@ -34,7 +34,8 @@ returns c =
     let long = long_cells arc_value c.as_slice-twigs.result.now in
     let many = ap length twigs in
     plan_to_clear cells begin from to r.hi
-    (record { row = c.in-Some.row; gone = c.in-Some-2.rest.gone; parts = c.in-Some-3.parts }) r.is each
+    (record { row = c.in-Some.row; below = record { old = c.from_vec.result; new = c.from_vec-2.result }; parts = c.in-Some-3.parts }) r.is each
     (subst (λ cs. AreTheirPieces cs each) twigs theirs) (omega (arith, few, long, many)) c.as_slice.result.now
-    (rank c.hi-hi.result) c.in-Some-2.rest (c.as_slice.ensures.value ∙ all) end cleared refl
+    (rank c.hi-hi.result) c.in-Some-2.rest (c.as_slice.ensures.value ∙ all) end cleared c.from_vec.ensures
+    c.from_vec-2.ensures
     (subst (λ ps. AreParts ps (map (λ p. p.items) c.in-Some-3.parts.items)) c.as_slice-2.ensures.value parts)

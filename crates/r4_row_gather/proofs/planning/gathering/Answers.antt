@@ -24,6 +24,6 @@ returns c =
     let long = long_cells arc_value c.as_slice-twigs.result.now in
     let many = ap length twigs in
     plan_to_gather cells from from to r.hi
-    (record { row = c.in-Some.row; gone = c.new-gone.result; parts = c.in-Some-2.parts }) r.is each
+    (record { row = c.in-Some.row; below = record { old = c.new.result; new = c.new-2.result }; parts = c.in-Some-2.parts }) r.is each
     (subst (λ cs. AreTheirPieces cs each) twigs theirs) (omega (arith, few, long, many)) c.as_slice.result.now
-    (c.as_slice.ensures.value ∙ all) c.new-gone.ensures parts
+    (c.as_slice.ensures.value ∙ all) c.new.ensures c.new-2.ensures parts
