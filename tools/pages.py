@@ -23,7 +23,7 @@ IMPORT = re.compile(r"^use Rattle\.(?:\w+\.specs\.(?=r4_))*(\w+)(?:\.specs)?\.([
 # How long README.md may be, and calls that are named as crates are.
 MOST_LINES = 120
 # How many paths crates.txt may have: the gate reads a crate's files once for each that leads to it (docs/gate.md).
-MOST_PATHS = 200_000
+MOST_PATHS = 210_000
 CALLS = {"r4_main"}
 
 # The promises, in reading order: what each says, and the definitions that its clauses cite.

@@ -1,5 +1,5 @@
 -- The body of a task, from what its edits tell of it.
-use Rattle.std.proofs.Common.{◌≡◌, ℕ, ◌≤◌, ◌^◌, Bool, true, false, Option, Some, None, refl, sym, ap, subst, ◌∙◌, option_map}
+use Rattle.std.proofs.Common.{◌≡◌, ℕ, ◌≤◌, true, false, Option, Some, None, refl, sym, ap, subst, ◌∙◌, option_map}
 use Rattle.std.specs.Arc.{arc_value}
 use Rattle.std.proofs.lemmas.Option.{none-some, same_Some}
 use Rattle.r4_put_tasks.specs.r4_build.Built.{edits_for}
@@ -12,7 +12,7 @@ use Rattle.r4_content.specs.Fields.{HasBytePaths}
 use Rattle.r4_content.specs.Held.{pairs_of}
 use Rattle.r4_content.specs.Seen.{Rises}
 use Rattle.r4_suited.specs.Suited.{AreLawfulSeen}
-use Rattle.r4_put_tasks.specs.r4_lost_tasks.r4_extent_shrink.r4_extent_demands.Sizes.{AreExtentEdits, IsSized, IsSizedBody}
+use Rattle.r4_put_tasks.specs.r4_lost_tasks.r4_extent_shrink.r4_extent_demands.Sizes.{AreExtentEdits, IsSized}
 use Rattle.r4_put_tasks.proofs.r4_lost_tasks.r4_extent_shrink.r4_extent_demands.OfCommands.{command_asks}
 use Rattle.r4_put_tasks.specs.r4_lost_tasks.r4_task_moves.Doing.{body_for}
 use Rattle.r4_made.specs.Making.{IsPlanned, IsSizedAs}

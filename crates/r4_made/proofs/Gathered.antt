@@ -1,5 +1,5 @@
 -- What the cells of a task are once they are gathered below one twig, and the change that is made of them then.
-use Rattle.std.proofs.Common.{◌≡◌, ◌⊎◌, inl, inr, ℕ, ◌+◌, ◌*◌, ◌≤◌, ◌<◌, Bool, true, false, List, [], ◌∷◌, Option, Some, None, length, refl, sym, ap, subst, ◌∙◌, arith, cond}
+use Rattle.std.proofs.Common.{◌≡◌, ◌⊎◌, inl, inr, ℕ, ◌≤◌, ◌<◌, Bool, true, false, List, [], ◌∷◌, Option, Some, None, refl, sym, ap, subst, ◌∙◌, arith, cond}
 use Rattle.std.specs.Prelude.{◌↔◌, ◌==◌, Contains, unwrap_or}
 use Rattle.std.specs.Option.{option_map}
 use Rattle.std.proofs.lemmas.List.Elements.{Contains-append_cases, Contains-append_left, Contains-append_right}
@@ -21,7 +21,7 @@ use Rattle.r4_put_tasks.specs.r4_build.r4_patch.Following.{AreInTurn, IsFollowed
 use Rattle.r4_put_tasks.specs.r4_build.r4_patch.Joining.{ids_of, patch_of_change}
 use Rattle.r4_put_tasks.specs.r4_build.r4_patch.Part.{IsPart, MeetsPart}
 use Rattle.r4_put_tasks.specs.r4_build.r4_path.Steps.{IsFree}
-use Rattle.r4_put_tasks.proofs.r4_lost_tasks.r4_extent_shrink.r4_extent_growth.r4_extent_build.r4_extent_demands.PutsInto.{any_there}
+use Rattle.r4_put_tasks.proofs.r4_grown_tasks.r4_extent_growth.r4_extent_change.r4_extent_build.r4_extent_demands.PutsInto.{any_there}
 use Rattle.r4_put_tasks.proofs.r4_build.r4_patch.Effects.{effects_follow}
 use Rattle.r4_put_tasks.proofs.r4_build.r4_patch.Followed.{among_cell, among_or_not, cell_among, followed_change, followed_meets, followed_same, in_without, none_by_name, to_without}
 use Rattle.r4_put_tasks.proofs.r4_build.r4_patch.Members.{cases, distinct, found, here, none}

@@ -1,5 +1,5 @@
 -- What the parts of the change of a task give whose body loses no blocks.
-use Rattle.std.proofs.Common.{◌≡◌, ℕ, true, List, Some, Bool, refl, sym, ap, subst, ◌∙◌}
+use Rattle.std.proofs.Common.{ℕ, List, Some, Bool, sym, subst}
 use Rattle.std.specs.Prelude.{Contains}
 use Rattle.r4_put_tasks.specs.r4_allowed.Table.{budget_of}
 use Rattle.r4_put_tasks.specs.r4_allowed.declared.table.Allowance.{Allowance}
@@ -13,7 +13,6 @@ use Rattle.r4_put_tasks.specs.r4_build.r4_patch.Effect.{HasEffect}
 use Rattle.r4_put_tasks.specs.r4_build.r4_patch.Joining.{patch_of_change}
 use Rattle.r4_put_tasks.specs.r4_build.r4_reach.Touched.{Body}
 use Rattle.r4_content.specs.Edited.{Edits}
-use Rattle.r4_put_tasks.specs.r4_grown_tasks.GrownTask.{IsGrownFor}
 use Rattle.r4_put_tasks.specs.r4_grown_tasks.Places.{HavePlaces}
 use Rattle.r4_put_tasks.proofs.r4_grown_tasks.GrownTask as grown
 use Rattle.r4_put_tasks.proofs.r4_lost_tasks.r4_task_moves.OldEnd.{end_among, held_below}

@@ -1,5 +1,5 @@
 -- What the parts of a task's change give together.
-use Rattle.std.proofs.Common.{◌≡◌, ◌⊎◌, inl, inr, ℕ, ◌+◌, ◌<◌, ◌≤◌, Bool, true, false, [], ◌∷◌, List, Some, refl, sym, ap, subst, ◌∙◌, arith, map}
+use Rattle.std.proofs.Common.{◌≡◌, ◌⊎◌, inl, inr, ℕ, ◌<◌, ◌≤◌, true, [], ◌∷◌, List, Some, refl, sym, ap, subst, ◌∙◌, arith, map}
 use Rattle.std.specs.Prelude.{Contains, length, ◌==◌}
 use Rattle.std.proofs.lemmas.Bool.{eqb-true}
 use Rattle.r4_put_tasks.specs.r4_allowed.Allowing.{AreTaskCells, IsMeasure}
@@ -11,22 +11,20 @@ use Rattle.r4_base.specs.Tree.{Root, Store}
 use Rattle.r4_base.specs.Value.{Value}
 use Rattle.r4_base.specs.declared.things.NodeId.{NodeId}
 use Rattle.r4_put_tasks.specs.r4_build.Building.{AreNumbered}
-use Rattle.r4_put_tasks.specs.r4_build.Built.{IsMove, IsTaskIn, edits_for}
+use Rattle.r4_put_tasks.specs.r4_build.Built.{IsMove, IsTaskIn}
 use Rattle.r4_put_tasks.specs.r4_build.declared.task.Task.{Task}
-use Rattle.r4_put_tasks.specs.r4_build.r4_measure.r4_cell.Patch.{IsChange, root_of_pair}
+use Rattle.r4_put_tasks.specs.r4_build.r4_measure.r4_cell.Patch.{root_of_pair}
 use Rattle.r4_put_tasks.specs.r4_build.r4_measure.r4_cell.Seen.{CellSeen}
 use Rattle.r4_put_tasks.specs.r4_build.r4_measure.r4_cell.declared.change.Change.{Change}
 use Rattle.r4_put_tasks.specs.r4_build.r4_measure.r4_cell.declared.change.Fresh.{Fresh}
 use Rattle.r4_put_tasks.specs.r4_build.r4_patch.Effect.{HasEffect}
 use Rattle.r4_put_tasks.specs.r4_build.r4_patch.Joining.{ids_of, patch_of_change}
-use Rattle.r4_put_tasks.specs.r4_build.r4_patch.Part.{MeetsPart}
 use Rattle.r4_put_tasks.specs.r4_build.r4_path.Steps.{OnlyTakes}
 use Rattle.r4_put_tasks.specs.r4_build.r4_reach.Touched.{Body}
 use Rattle.r4_put_tasks.proofs.r4_build.r4_patch.Members.{cases, here, later, none}
 use Rattle.r4_content.specs.Edited.{Edits}
 use Rattle.r4_content.specs.Held.{interval_of}
 use Rattle.r4_content.specs.declared.edits.Interval.{Interval}
-use Rattle.r4_put_tasks.specs.r4_lost_tasks.Going.{IsLostFor}
 use Rattle.r4_put_tasks.proofs.r4_lost_tasks.LostTask as lost
 use Rattle.r4_put_tasks.proofs.r4_lost_tasks.r4_extent_shrink.Found.{can_lose}
 use Rattle.r4_put_tasks.proofs.r4_lost_tasks.r4_task_moves.Alike.{own_stand}
@@ -37,7 +35,7 @@ use Rattle.r4_put_tasks.specs.r4_lost_tasks.r4_extent_shrink.r4_extent_demands.S
 use Rattle.r4_put_tasks.specs.r4_lost_tasks.r4_extent_shrink.r4_extent_loss.Losing.{IsLosing}
 use Rattle.r4_put_tasks.specs.r4_lost_tasks.r4_extent_shrink.r4_extent_growth.Coming.{SufficesFor, count_of}
 use Rattle.r4_made.specs.Losing.{MayBeLost}
-use Rattle.r4_made.specs.Making.{CountsOnce, DoesAs, IsAllowance, IsMadeIn, IsMadeOf, IsPlanned, over}
+use Rattle.r4_made.specs.Making.{CountsOnce, IsAllowance, IsMadeIn, IsMadeOf, IsPlanned, over}
 use Rattle.r4_made.proofs.Once.{mapped}
 
 -- ---- what may still come

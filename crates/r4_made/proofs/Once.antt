@@ -1,8 +1,7 @@
 -- Counts of cells that have each a number of its own.
-use Rattle.std.proofs.Common.{◌≡◌, inl, inr, ℕ, Bool, true, false, [], ◌∷◌, List, Option, Some, sym, ap, subst, ◌∙◌, map}
+use Rattle.std.proofs.Common.{◌≡◌, inl, inr, ℕ, Bool, true, false, [], ◌∷◌, List, sym, ap, subst, ◌∙◌, map}
 use Rattle.std.specs.Prelude.{Contains, if◌then◌else◌}
 use Rattle.std.specs.List.{filter}
-use Rattle.std.proofs.lemmas.Option.{same_Some}
 use Rattle.r4_put_tasks.specs.r4_build.r4_measure.r4_cell.Patch.{HaveNames}
 use Rattle.r4_put_tasks.specs.r4_build.r4_measure.r4_cell.Seen.{CellSeen}
 use Rattle.r4_put_tasks.proofs.r4_build.r4_patch.Members.{Distinct, cases, distinct, here, later, none}

@@ -1,5 +1,5 @@
 -- What the parts of the change of a task give of which values come among extents.
-use Rattle.std.proofs.Common.{◌≡◌, ℕ, true, List, Option, sym, ap, subst, ◌∙◌}
+use Rattle.std.proofs.Common.{List, Option, sym, subst}
 use Rattle.r4_put_tasks.specs.r4_allowed.Table.{budget_of}
 use Rattle.r4_put_tasks.specs.r4_allowed.declared.table.Allowance.{Allowance}
 use Rattle.r4_base.specs.Tree.{Root, Store}
@@ -13,7 +13,6 @@ use Rattle.r4_put_tasks.specs.r4_build.r4_patch.Effect.{HasEffect}
 use Rattle.r4_put_tasks.specs.r4_build.r4_patch.Joining.{patch_of_change}
 use Rattle.r4_put_tasks.specs.r4_build.r4_reach.Touched.{Body}
 use Rattle.r4_content.specs.Edited.{Edits}
-use Rattle.r4_put_tasks.specs.r4_lost_tasks.r4_task_moves.Doing.{body_for}
 use Rattle.r4_put_tasks.proofs.PutMoves as puts
 use Rattle.r4_put_tasks.proofs.r4_extent_put.Found.{can_put}
 use Rattle.r4_put_tasks.specs.r4_extent_put.Putting.{CanPut}
@@ -21,7 +20,6 @@ use Rattle.r4_put_tasks.specs.r4_extent_put.Taking.{twigs_putting}
 use Rattle.r4_put_tasks.specs.r4_extent_put.Whole.{put_keys}
 use Rattle.r4_made.specs.Making.{IsAllowance, IsPlanned}
 use Rattle.r4_made.specs.Putting.{MayBePut}
-use Rattle.r4_put_tasks.specs.Put.{IsPutFor}
 use Rattle.r4_put_tasks.specs.r4_extent_put.r4_extent_demands.r4_leaf_demands.Leaves.{IsInLeaves}
 
 pub can_be_put : (task : Task) (b : Option Body) (e : Edits) (table : List Allowance) → MayBePut task b e

@@ -1,10 +1,10 @@
 -- What the parts of the change of a task give whose body comes to extents.
-use Rattle.std.proofs.Common.{◌≡◌, ℕ, ◌+◌, ◌*◌, ◌/◌, ◌≤◌, true, [], ◌∷◌, List, Some, refl, sym, ap, subst, ◌∙◌, arith}
+use Rattle.std.proofs.Common.{◌≡◌, ℕ, ◌≤◌, [], ◌∷◌, List, Some, refl, sym, ap, subst, ◌∙◌, arith}
 use Rattle.r4_put_tasks.specs.r4_allowed.Table.{budget_of}
 use Rattle.r4_put_tasks.specs.r4_allowed.declared.table.Allowance.{Allowance}
 use Rattle.r4_base.specs.Tree.{Root, Store}
 use Rattle.r4_base.specs.Value.{Value}
-use Rattle.r4_put_tasks.specs.r4_build.Built.{IsMove, IsTaskIn, edits_for}
+use Rattle.r4_put_tasks.specs.r4_build.Built.{IsMove, IsTaskIn}
 use Rattle.r4_put_tasks.specs.r4_build.declared.task.Task.{Task}
 use Rattle.r4_put_tasks.specs.r4_build.r4_leaf_edits.Suiting.{SuitLeaves}
 use Rattle.r4_put_tasks.specs.r4_build.r4_measure.r4_cell.declared.change.Change.{Change}

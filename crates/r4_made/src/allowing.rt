@@ -19,7 +19,7 @@ pub(crate) fn allowance(
     cells: &[Arc<Cell>],
     twigs: &[(NodeId, u64)],
 ) -> Result<Vec<Allowance>, Memory>
-    requires once { CountsOnce (map count_of twigs.now) }
+    requires { CountsOnce (map count_of twigs.now) }
     ensures { IfOk result (λ table. IsAllowance task.now (map (λ c. arc_value c) cells.now)
         (map count_of twigs.now) table.items) }
 {

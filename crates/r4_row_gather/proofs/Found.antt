@@ -3,9 +3,9 @@ use Rattle.std.proofs.Common.{◌≡◌, inl, inr, ℕ, ◌<◌, List, [], ◌�
 use Rattle.std.specs.Prelude.{Contains}
 use Rattle.std.proofs.lemmas.List.Elements.{Contains-append_cases}
 use Rattle.r4_base.specs.Key.{rank}
-use Rattle.r4_cell.specs.Seen.{CellSeen}
-use Rattle.r4_patch.proofs.Members.{cases, none}
-use Rattle.r4_path.specs.Steps.{Follow}
+use Rattle.r4_work.specs.r4_cell.Seen.{CellSeen}
+use Rattle.r4_work.proofs.r4_patch.Members.{cases, none}
+use Rattle.r4_work.specs.r4_path.Steps.{Follow}
 use Rattle.r4_work.specs.Order.{IsAt}
 use Rattle.r4_row_gather.specs.Finding.{BeginsAt, IsRowFrom}
 

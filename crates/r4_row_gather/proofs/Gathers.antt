@@ -6,30 +6,26 @@ use Rattle.std.proofs.lemmas.Bool.{false≢true}
 use Rattle.std.proofs.lemmas.Bool.Decides.{nat_tests}
 use Rattle.std.proofs.lemmas.List.Kept.{AllPairs-filter}
 use Rattle.std.proofs.lemmas.List.Elements.{Contains-append_cases, Contains-append_left, Contains-append_right}
-use Rattle.std.proofs.lemmas.Option.{same_Some}
-use Rattle.r4_base.specs.Cell.{cell_of, units_in}
 use Rattle.r4_base.specs.Key.{rank}
-use Rattle.r4_base.specs.Node.{items_of}
 use Rattle.r4_base.specs.Tree.{IsNode, Name, Root, Store}
 use Rattle.r4_base.specs.Value.{Value}
-use Rattle.r4_branch.specs.Pieces.{AreTwigPieces, Follow as PiecesFollow, names_of, next_of, piece_end, units_of}
-use Rattle.r4_branch.specs.declared.piece.TwigPart.{TwigPart}
-use Rattle.r4_branch.specs.declared.piece.TwigPart.TheVariants.{Pointer}
-use Rattle.r4_branch.specs.declared.piece.TwigPiece.{TwigPiece}
-use Rattle.r4_cell.specs.Patch.{HaveNames}
-use Rattle.r4_cell.specs.Seen.{CellSeen, node_of}
-use Rattle.r4_cell.specs.declared.change.Change.{Change}
-use Rattle.r4_cell.specs.declared.change.Fresh.{Fresh}
-use Rattle.r4_graft.proofs.FoundPlaces.{find_pointer}
-use Rattle.r4_graft.proofs.Placed.{has_end}
-use Rattle.r4_patch.proofs.LeftOut.{among_contained}
-use Rattle.r4_patch.specs.Following.{is_among, without}
-use Rattle.r4_patch.proofs.Members.{Distinct, cases, distinct, distinct_append, have_names, here, later, none}
-use Rattle.r4_patch.specs.Effect.{Placed}
-use Rattle.r4_patch.specs.Joining.{ids_of}
-use Rattle.r4_path.proofs.Rising.{lo_is}
-use Rattle.r4_path.specs.Levels.{units_of_cells}
-use Rattle.r4_path.specs.Steps.{root_pair}
+use Rattle.r4_work.specs.r4_branch.Pieces.{AreTwigPieces, names_of, next_of, units_of}
+use Rattle.r4_work.specs.r4_branch.declared.piece.TwigPart.{TwigPart}
+use Rattle.r4_work.specs.r4_branch.declared.piece.TwigPart.TheVariants.{Pointer}
+use Rattle.r4_work.specs.r4_branch.declared.piece.TwigPiece.{TwigPiece}
+use Rattle.r4_work.specs.r4_cell.Patch.{HaveNames}
+use Rattle.r4_work.specs.r4_cell.Seen.{CellSeen, node_of}
+use Rattle.r4_work.specs.r4_cell.declared.change.Change.{Change}
+use Rattle.r4_work.specs.r4_cell.declared.change.Fresh.{Fresh}
+use Rattle.r4_work.proofs.r4_graft.FoundPlaces.{find_pointer}
+use Rattle.r4_work.proofs.r4_patch.LeftOut.{among_contained}
+use Rattle.r4_work.specs.r4_patch.Following.{is_among, without}
+use Rattle.r4_work.proofs.r4_patch.Members.{Distinct, cases, distinct, distinct_append, have_names, here, later, none}
+use Rattle.r4_work.specs.r4_patch.Effect.{Placed}
+use Rattle.r4_work.specs.r4_patch.Joining.{ids_of}
+use Rattle.r4_work.proofs.r4_path.Rising.{id_member}
+use Rattle.r4_work.specs.r4_path.Levels.{units_of_cells}
+use Rattle.r4_work.specs.r4_path.Steps.{root_pair}
 use Rattle.r4_rows.proofs.RowUnits.{in_units, of_units, same_bool}
 use Rattle.r4_rows.proofs.SlumPieces.{slum_pieces, twig_pieces}
 use Rattle.r4_rows.specs.Fewest.{joined}
@@ -101,13 +97,6 @@ out_of_way from to key p id points at out = by_tests (nat_le from (rank p.key)) 
     by_tests true true one two e = absurd cc
 
 -- ---- names of what stands
-
-ids_have : (cells : List CellSeen) (c : CellSeen) → Contains cells c → Contains (ids_of cells) c.id
-ids_have [] c at = absurd (none c at)
-ids_have (d ∷ cells) c at = elim (cases d c cells at) [
-  | inl is ↦ subst (λ (x : CellSeen). Contains (ids_of (d ∷ cells)) x.id) (sym is) (here d.id (ids_of cells))
-  | inr more ↦ later d.id c.id (ids_of cells) (ids_have cells c more)
-]
 
 not_among : (ids : List ℕ) (cells : List CellSeen) (x : CellSeen) → Contains (without ids cells) x
     → Contains ids x.id → ⊥
@@ -189,9 +178,9 @@ module _ (cells row : List CellSeen) (begin hi : ℕ) (is : IsRowFrom cells 2 be
         → Contains (going fates) x ⊎ (Contains row x ⊎ Contains (olds_in shifted.more) x)
     old_cases x at = elim (Contains-append_cases (going fates) (row ++ olds_in shifted.more) x
         (subst (λ cs. Contains cs x) shifted.old at)) [
-      | inl gone ↦ inl gone
-      | inr rest ↦ inr (Contains-append_cases row (olds_in shifted.more) x rest)
-    ]
+          | inl gone ↦ inl gone
+          | inr rest ↦ inr (Contains-append_cases row (olds_in shifted.more) x rest)
+        ]
 
     pub old_among : (x : CellSeen) → Contains c.old x → Contains cells x
     old_among x at = elim (old_cases x at) [
@@ -209,22 +198,22 @@ module _ (cells row : List CellSeen) (begin hi : ℕ) (is : IsRowFrom cells 2 be
     new_numbers x at = elim (made.numbers x at) [
       | inl below ↦
           let (leaf, (d, m, same)) = came_id hi (joined each) fates may x below in
-          subst (Contains (ids_of c.old)) (sym same) (ids_have c.old d (gone_old d m))
+          subst (Contains (ids_of c.old)) (sym same) (id_member c.old d (gone_old d m))
       | inr old ↦ old
     ]
 
     new_twig : (x : CellSeen) → Contains c.new x → x.level ≡ 2 → Contains shifted.cells x
     new_twig x at two = elim (Contains-append_cases (coming fates) (shifted.cells ++ news_in shifted.more shifted.over) x
         (subst (λ cs. Contains cs x) shifted.new at)) [
-      | inl came ↦ let leaf = (came_id hi (joined each) fates may x came).0 in absurd (omega (arith, leaf, two))
-      | inr rest ↦ elim (Contains-append_cases shifted.cells (news_in shifted.more shifted.over) x rest) [
-        | inl mine ↦ mine
-        | inr high ↦
-            let up = news_above 2 (record { old = row; new = shifted.cells }) shifted.more shifted.climbed.points x
-            (subst (λ o. Contains (news_in shifted.more o) x) over_none high) in
-            absurd (omega (arith, up, two))
-      ]
-    ]
+          | inl came ↦ let leaf = (came_id hi (joined each) fates may x came).0 in absurd (omega (arith, leaf, two))
+          | inr rest ↦ elim (Contains-append_cases shifted.cells (news_in shifted.more shifted.over) x rest) [
+            | inl mine ↦ mine
+            | inr high ↦
+                let up = news_above 2 (record { old = row; new = shifted.cells }) shifted.more shifted.climbed.points x
+                (subst (λ o. Contains (news_in shifted.more o) x) over_none high) in
+                absurd (omega (arith, up, two))
+          ]
+        ]
 
     gone_leaf : (x : CellSeen) → Contains c.old x → x.level ≡ 1 → Contains (going fates) x
     gone_leaf x at leaf = elim (old_cases x at) [
@@ -258,9 +247,9 @@ module _ (cells row : List CellSeen) (begin hi : ℕ) (is : IsRowFrom cells 2 be
     named to same n = (
       (λ at. elim (of_names is.lo hi (joined each) fates had.follow may n (subst (λ ps. Contains (names_of hi ps) n) are.are
           (subst (λ k. Contains (names_of k (joined parts)) n) same at))) [
-        | inl (kept, out) ↦ inl ((slum.names n).1 kept, out)
-        | inr comes ↦ inr comes
-      ]),
+            | inl (kept, out) ↦ inl ((slum.names n).1 kept, out)
+            | inr comes ↦ inr comes
+          ]),
       (λ after. subst (λ k. Contains (names_of k (joined parts)) n) (sym same)
           (subst (λ ps. Contains (names_of hi ps) n) (sym are.are) (elim after [
             | inl (naming, out) ↦ to_names hi (joined each) fates may n ((slum.names n).0 naming) out
@@ -296,7 +285,7 @@ module _ (cells row : List CellSeen) (begin hi : ℕ) (is : IsRowFrom cells 2 be
         old = have_names (going fates) once;
         new = have_names (coming fates) (coming_distinct hi (joined each) fates may once);
         each = λ d at. let (leaf, (c, m, same)) = came_id hi (joined each) fates may d at in
-            inl (subst (Contains (ids_of (going fates))) (sym same) (ids_have (going fates) c m));
+            inl (subst (Contains (ids_of (going fates))) (sym same) (id_member (going fates) c m));
       };
     }
 
@@ -320,17 +309,23 @@ module _ (cells row : List CellSeen) (begin hi : ℕ) (is : IsRowFrom cells 2 be
       others = λ k u at. (
         (λ (d, m, unit, kind). elim (Contains-append_cases (coming fates) cs d m) [
           | inl came ↦
-              let (c, gone, its) = came_unit hi (joined each) fates may d came (k, u.0) unit in
-              (c, Contains-append_left (going fates) row c gone, its,
-              same_bool d.level c.level u.1 (leaves d came c gone) kind)
+              let (c, gone, its) = came_unit hi (joined each) fates may d came (k, u.0) unit in (
+                c,
+                Contains-append_left (going fates) row c gone,
+                its,
+                same_bool d.level c.level u.1 (leaves d came c gone) kind,
+              )
           | inr new ↦ let (c, there, its, alike) = twigs_of k u cs row twigs in_row same (d, new, unit, kind) in
               (c, Contains-append_right (going fates) row c there, its, alike)
         ]),
         (λ (c, m, unit, kind). elim (Contains-append_cases (going fates) row c m) [
           | inl gone ↦
-              let (d, came, its) = gone_unit hi (joined each) fates may gone_nodes c gone (k, u.0) unit in
-              (d, Contains-append_left (coming fates) cs d came, its,
-              same_bool c.level d.level u.1 (sym (leaves d came c gone)) kind)
+              let (d, came, its) = gone_unit hi (joined each) fates may gone_nodes c gone (k, u.0) unit in (
+                d,
+                Contains-append_left (coming fates) cs d came,
+                its,
+                same_bool c.level d.level u.1 (sym (leaves d came c gone)) kind,
+              )
           | inr stays ↦ let (d, there, its, alike) = twigs_of k u row cs in_row twigs (sym same) (c, stays, unit, kind) in
               (d, Contains-append_right (coming fates) cs d there, its, alike)
         ]),

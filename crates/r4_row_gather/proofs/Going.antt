@@ -1,5 +1,5 @@
 -- Pieces that stay, and leaves that go, or give way to others that begin later.
-use Rattle.std.proofs.Common.{◌≡◌, ◌⊎◌, inl, inr, ℕ, ◌+◌, ◌<◌, ◌≤◌, true, false, List, [], ◌∷◌, ◌++◌, refl, sym, ap, subst}
+use Rattle.std.proofs.Common.{◌≡◌, ◌⊎◌, inl, inr, ℕ, ◌<◌, ◌≤◌, true, false, List, [], ◌∷◌, ◌++◌, refl, sym, ap, subst}
 use Rattle.std.proofs.Common.{◌∙◌, arith}
 use Rattle.std.specs.Prelude.{if◌then◌else◌, Bool, Contains}
 use Rattle.std.proofs.lemmas.List.Elements.{Contains-append_cases, Contains-append_left, Contains-append_right}
@@ -7,29 +7,23 @@ use Rattle.r4_base.specs.Cell.{run_names}
 use Rattle.r4_base.specs.Extents.{is_hole}
 use Rattle.r4_base.specs.Key.{offset_of, rank}
 use Rattle.r4_base.specs.Tree.{Name}
-use Rattle.r4_branch.specs.Pieces.{Follow, IsSoundPart, names_of, next_of, part_end, part_names, part_units}
-use Rattle.r4_branch.specs.Pieces.{piece_end, units_of}
-use Rattle.r4_branch.specs.declared.piece.TwigPart.{TwigPart}
-use Rattle.r4_branch.specs.declared.piece.TwigPart.TheVariants.{Pointer, Blocks}
-use Rattle.r4_branch.specs.declared.piece.TwigPiece.{TwigPiece}
-use Rattle.r4_cell.specs.Seen.{CellSeen}
-use Rattle.r4_graft.proofs.FoundPlaces.{runs_level}
-use Rattle.r4_graft.proofs.Placed.{has_end}
-use Rattle.r4_graft.proofs.SplicedNames.{names_begin}
-use Rattle.r4_patch.proofs.Members.{cases, here, later, none}
-use Rattle.r4_path.specs.Steps.{IsNameOf, name_of}
+use Rattle.r4_work.specs.r4_branch.Pieces.{Follow, IsSoundPart, names_of, next_of, part_end, part_names, part_units}
+use Rattle.r4_work.specs.r4_branch.Pieces.{piece_end, units_of}
+use Rattle.r4_work.specs.r4_branch.declared.piece.TwigPart.{TwigPart}
+use Rattle.r4_work.specs.r4_branch.declared.piece.TwigPart.TheVariants.{Pointer, Blocks}
+use Rattle.r4_work.specs.r4_branch.declared.piece.TwigPiece.{TwigPiece}
+use Rattle.r4_work.specs.r4_cell.Seen.{CellSeen}
+use Rattle.r4_work.proofs.r4_edit.CutParts.{follow_from}
+use Rattle.r4_work.proofs.r4_graft.FoundPlaces.{runs_level}
+use Rattle.r4_work.proofs.r4_graft.Joined.{follow_lower}
+use Rattle.r4_work.proofs.r4_graft.Placed.{has_end}
+use Rattle.r4_work.proofs.r4_graft.SplicedNames.{names_begin}
+use Rattle.r4_work.proofs.r4_patch.Members.{cases, here, later, none}
+use Rattle.r4_work.specs.r4_path.Steps.{IsNameOf, name_of}
 use Rattle.r4_row_gather.specs.Clearing.{Begins, Fate, Goes, IsLeafAt, IsShortened, MayHave, Stays, coming}
 use Rattle.r4_row_gather.specs.Clearing.{going, is_pointer, staying}
 
 -- ---- where they stand
-
-follow_lower : (lo k hi : ℕ) (ps : List TwigPiece) → lo ≤ k → Follow k hi ps → Follow lo hi ps
-follow_lower lo k hi [] le f = omega (arith, le, f)
-follow_lower lo k hi (p ∷ ps) le f = let h = f.0 in (omega (arith, le, h), f.1, f.2)
-
-follow_higher : (lo k hi : ℕ) (ps : List TwigPiece) → k ≤ next_of hi ps → Follow lo hi ps → Follow k hi ps
-follow_higher lo k hi [] le f = le
-follow_higher lo k hi (p ∷ ps) le f = (le, f.1, f.2)
 
 -- a pointer is sound at any key
 sound_at : (one two : ℕ) (t : TwigPart) (id : ℕ) → t ≡ Pointer (record { 0 = id }) → IsSoundPart one t → IsSoundPart two t
@@ -44,7 +38,7 @@ staying_follow lo hi (p ∷ ps) (Stays ∷ fs) f may = (f.0, f.1, staying_follow
 staying_follow lo hi (p ∷ ps) (Goes c ∷ fs) f may =
     let low = f.0 in
     let high = has_end p f.1 in
-    follow_lower lo (piece_end p) hi (staying ps fs) (omega (arith, low, high))
+    follow_lower (piece_end p) lo hi (staying ps fs) (omega (arith, low, high))
     (staying_follow (piece_end p) hi ps fs f.2 may.2)
 staying_follow lo hi (p ∷ ps) (Begins c d ∷ fs) f may =
     let low = f.0 in
@@ -53,11 +47,10 @@ staying_follow lo hi (p ∷ ps) (Begins c d ∷ fs) f may =
     let within = may.1.within in
     let end = may.0.ends in
     let next = may.2 in
-    let one = ap (λ (t : TwigPart). part_end (rank d.lo) t) may.0.points in
-    (
+    let one = ap (λ (t : TwigPart). part_end (rank d.lo) t) may.0.points in (
       omega (arith, low, begin, behind),
       (may.1.part.whole_key, sound_at (offset_of p.key) (offset_of d.lo) p.part c.id may.0.points f.1.1),
-      follow_higher (piece_end p) (part_end (rank d.lo) p.part) hi (staying ps fs) (omega (arith, one, within, end, next))
+      follow_from (piece_end p) (part_end (rank d.lo) p.part) hi (staying ps fs) (omega (arith, one, within, end, next))
           (staying_follow (piece_end p) hi ps fs f.2 may.3),
     )
 
@@ -206,9 +199,9 @@ of_names lo hi (p ∷ ps) (Stays ∷ fs) f may n at =
             (subst (λ ns. Contains ns n)
             (part_same (rank p.key) (next_of hi (staying ps fs)) (next_of hi ps) p.part may.0) mine),
         (λ (c, mc, is).
-          let (low, leaf) = going_low (piece_end p) hi ps fs f.2 may.1 c mc in
-          let end = has_end p f.1 in
-          part_apart (rank p.key) (next_of hi (staying ps fs)) p.part n c mine (omega (arith, low, end)) leaf is),
+            let (low, leaf) = going_low (piece_end p) hi ps fs f.2 may.1 c mc in
+            let end = has_end p f.1 in
+            part_apart (rank p.key) (next_of hi (staying ps fs)) p.part n c mine (omega (arith, low, end)) leaf is),
       )
       | inr more ↦ elim (of_names (piece_end p) hi ps fs f.2 may.1 n more) [
         | inl (had, kept) ↦ inl (
@@ -229,9 +222,9 @@ of_names lo hi (p ∷ ps) (Begins c d ∷ fs) f may n at =
     elim (Contains-append_cases (part_names (rank d.lo) (next_of hi (staying ps fs)) p.part) (names_of hi (staying ps fs)) n at) [
       | inl mine ↦ elim (cases (name_of d) n []
           (subst (λ ns. Contains ns n) (later_name hi p ps (staying ps fs) c d may.0 may.1 may.2) mine)) [
-        | inl is ↦ inr (d, here d (coming fs), is)
-        | inr more ↦ absurd (none n more)
-      ]
+            | inl is ↦ inr (d, here d (coming fs), is)
+            | inr more ↦ absurd (none n more)
+          ]
       | inr more ↦ elim (of_names (piece_end p) hi ps fs f.2 may.3 n more) [
         | inl (had, kept) ↦ inl (
           Contains-append_right (part_names (rank p.key) (next_of hi ps) p.part) (names_of hi ps) n had,

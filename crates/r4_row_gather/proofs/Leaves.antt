@@ -2,7 +2,6 @@
 use Rattle.std.proofs.Common.{◌≡◌, ◌≢◌, ◌⊎◌, inl, inr, ℕ, ◌^◌, ◌<◌, ◌≤◌, List, [], ◌∷◌, refl, sym, ap, subst}
 use Rattle.std.proofs.Common.{◌∙◌, arith}
 use Rattle.std.specs.Prelude.{if◌then◌else◌, nat_le, true, false, Bool, Contains}
-use Rattle.std.specs.List.{filter}
 use Rattle.std.proofs.lemmas.Bool.Decides.{nat_tests}
 use Rattle.std.proofs.lemmas.Option.{same_Some}
 use Rattle.r4_base.specs.Cell.{cell_of, units_in}
@@ -10,18 +9,18 @@ use Rattle.r4_base.specs.Key.{rank}
 use Rattle.r4_base.specs.Node.{items_of}
 use Rattle.r4_base.specs.Tree.{IsNode, Node, Store}
 use Rattle.r4_base.specs.Value.{Value}
-use Rattle.r4_branch.specs.Pieces.{Follow, next_of, piece_end}
-use Rattle.r4_branch.specs.declared.piece.TwigPiece.{TwigPiece}
-use Rattle.r4_cell.proofs.Nodes.{cell_node}
-use Rattle.r4_cell.specs.Seen.{CellSeen, node_of}
-use Rattle.r4_graft.proofs.Placed.{has_end}
-use Rattle.r4_leaf.specs.Units.{LeafUnit}
-use Rattle.r4_patch.proofs.Members.{Distinct, cases, here, later, none}
-use Rattle.r4_path.proofs.Rising.{hi_is, lo_is}
+use Rattle.r4_work.specs.r4_branch.Pieces.{Follow, piece_end}
+use Rattle.r4_work.specs.r4_branch.declared.piece.TwigPiece.{TwigPiece}
+use Rattle.r4_work.proofs.r4_cell.Nodes.{cell_node}
+use Rattle.r4_work.specs.r4_cell.Seen.{CellSeen, node_of}
+use Rattle.r4_work.proofs.r4_graft.Placed.{has_end}
+use Rattle.r4_work.specs.r4_leaf.Units.{LeafUnit}
+use Rattle.r4_work.proofs.r4_patch.Members.{Distinct, cases, here, later, none}
+use Rattle.r4_work.proofs.r4_path.Rising.{hi_is, lo_is}
 use Rattle.r4_rows.specs.Rows.{AreThere}
 use Rattle.r4_work.specs.r4_edit.LeafParts.{units_from}
 use Rattle.r4_row_gather.proofs.Going.{going_low}
-use Rattle.r4_row_gather.specs.Clearing.{Begins, Fate, Goes, IsLeafAt, IsShortened, MayHave, Stays, coming, going}
+use Rattle.r4_row_gather.specs.Clearing.{Begins, Fate, Goes, MayHave, Stays, coming, going}
 
 -- ---- units
 
@@ -189,7 +188,7 @@ module _ (hi : ℕ) where
   coming_distinct (p ∷ ps) (Goes c ∷ fs) may once = coming_distinct ps fs may.2 once.1
   coming_distinct (p ∷ ps) (Begins c d ∷ fs) may once = (
     (λ e at same.
-      let (leaf, (x, m, its)) = came_id ps fs may.3 e at in
-      once.0 x m (sym may.1.part.number ∙ (same ∙ its))),
+        let (leaf, (x, m, its)) = came_id ps fs may.3 e at in
+        once.0 x m (sym may.1.part.number ∙ (same ∙ its))),
     coming_distinct ps fs may.3 once.1,
   )

@@ -1,9 +1,8 @@
 -- Parts, one more at a time.
-use Rattle.std.proofs.Common.{◌≡◌, ◌≤◌, List, [], ◌∷◌, ◌++◌, length, refl, sym, ap, ◌∙◌, arith}
-use Rattle.std.proofs.lemmas.List.{append-nil}
+use Rattle.std.proofs.Common.{◌≤◌, List, [], ◌∷◌, ◌++◌, length, refl, ap, ◌∙◌}
 use Rattle.std.proofs.lemmas.List.Elements.{All-append, All-cons, All-nil}
-use Rattle.r4_branch.specs.Pieces.{twig_bytes}
-use Rattle.r4_branch.specs.declared.piece.TwigPiece.{TwigPiece}
+use Rattle.r4_work.specs.r4_branch.Pieces.{twig_bytes}
+use Rattle.r4_work.specs.r4_branch.declared.piece.TwigPiece.{TwigPiece}
 use Rattle.r4_rows.specs.Fewest.{EachFits}
 use Rattle.r4_squeeze.proofs.Cells.{joined_more}
 use Rattle.r4_row_gather.specs.Parting.{AreParts, HavePiecesToo}
@@ -24,7 +23,3 @@ one_more_part parts g some less ps a = record {
       (All-cons (λ (x : List TwigPiece). 1 ≤ length x) g [] some (All-nil (λ (x : List TwigPiece). 1 ≤ length x)));
   fit = fits_more parts g a.fit less;
 }
-
-pub same_parts : (parts : List (List TwigPiece)) (g : List TwigPiece) → length g ≡ 0 → HavePiecesToo g parts parts
-same_parts parts [] none ps a = record { are = a.are ∙ sym (append-nil ps); some = a.some; fit = a.fit }
-same_parts parts (x ∷ g) none ps a = absurd (omega (arith, none))

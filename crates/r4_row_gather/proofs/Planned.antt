@@ -2,10 +2,10 @@
 use Rattle.std.proofs.Common.{◌≡◌, ◌∙◌, ℕ, ◌≤◌, List, [], ◌∷◌, length, map, refl, sym, ap, subst}
 use Rattle.std.specs.Prelude.{Contains}
 use Rattle.std.specs.Arc.{arc_value}
-use Rattle.r4_branch.specs.Pieces.{next_of}
-use Rattle.r4_branch.specs.declared.piece.TwigPiece.{TwigPiece}
-use Rattle.r4_cell.specs.Seen.{CellSeen}
-use Rattle.r4_patch.proofs.Members.{none}
+use Rattle.r4_work.specs.r4_branch.Pieces.{next_of}
+use Rattle.r4_work.specs.r4_branch.declared.piece.TwigPiece.{TwigPiece}
+use Rattle.r4_work.specs.r4_cell.Seen.{CellSeen}
+use Rattle.r4_work.proofs.r4_patch.Members.{none}
 use Rattle.r4_rows.specs.Fewest.{joined}
 use Rattle.r4_rows.specs.Packed.{AreTheirPieces}
 use Rattle.r4_row_gather.specs.Clearing.{Fate, IsCleared, MayHave, Stays, coming, going, staying}

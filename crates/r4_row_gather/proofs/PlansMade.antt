@@ -1,15 +1,14 @@
 -- What twigs get by a plan is a change that gathers.
-use Rattle.std.proofs.Common.{◌≡◌, ℕ, ◌≤◌, List, [], ◌++◌, length, map, sym, subst, arith}
-use Rattle.std.specs.Prelude.{Contains}
+use Rattle.std.proofs.Common.{◌≡◌, ℕ, ◌≤◌, List, ◌++◌, length, map, sym, subst, arith}
 use Rattle.std.proofs.lemmas.List.{length-map}
-use Rattle.r4_branch.specs.declared.piece.TwigPiece.{TwigPiece}
+use Rattle.r4_work.specs.r4_branch.declared.piece.TwigPiece.{TwigPiece}
 use Rattle.r4_base.specs.Tree.{Root, Store}
 use Rattle.r4_base.specs.Value.{Value}
-use Rattle.r4_cell.specs.Patch.{HaveNames}
-use Rattle.r4_cell.specs.Seen.{CellSeen}
-use Rattle.r4_cell.specs.declared.change.Change.{Change}
-use Rattle.r4_patch.specs.Following.{without}
-use Rattle.r4_patch.specs.Joining.{ids_of}
+use Rattle.r4_work.specs.r4_cell.Patch.{HaveNames}
+use Rattle.r4_work.specs.r4_cell.Seen.{CellSeen}
+use Rattle.r4_work.specs.r4_cell.declared.change.Change.{Change}
+use Rattle.r4_work.specs.r4_patch.Following.{without}
+use Rattle.r4_work.specs.r4_patch.Joining.{ids_of}
 use Rattle.r4_row_edit.specs.Climbing.{row_of}
 use Rattle.r4_row_edit.specs.Parting.{CanPart, IsParted}
 use Rattle.r4_row_gather.proofs.Gathers.{can_part, new_numbers, old_among, standing_names, still, way}

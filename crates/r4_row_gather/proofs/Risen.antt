@@ -4,10 +4,10 @@ use Rattle.std.specs.Prelude.{All, Contains, true}
 use Rattle.std.proofs.lemmas.List.Elements.{All-cons, All-nil}
 use Rattle.r4_base.specs.Cell.{names_block, next_key}
 use Rattle.r4_base.specs.Node.{Item}
-use Rattle.r4_cell.specs.Seen.{CellSeen}
-use Rattle.r4_patch.proofs.Members.{cases, none}
-use Rattle.r4_path.specs.Nodes.{IsPointable}
-use Rattle.r4_path.specs.Sharing.{IsSound, items_of_cells}
+use Rattle.r4_work.specs.r4_cell.Seen.{CellSeen}
+use Rattle.r4_work.proofs.r4_patch.Members.{cases, none}
+use Rattle.r4_work.specs.r4_path.Nodes.{IsPointable}
+use Rattle.r4_work.specs.r4_path.Sharing.{IsSound, items_of_cells}
 use Rattle.r4_rows.specs.Pointers.{PointTo}
 use Rattle.r4_squeeze.proofs.Cells.{cells_pointers}
 use Rattle.r4_squeeze.proofs.Rewriting.{accepted_pointer, pointer_long}
@@ -108,4 +108,3 @@ one_more_above cells level low row rows is over = record {
     | inr more ↦ over.among r more
   ];
 }
-

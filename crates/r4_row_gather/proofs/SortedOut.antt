@@ -1,7 +1,7 @@
 -- Pieces that stay, and leaves that go and come, one piece after the other.
-use Rattle.std.proofs.Common.{◌≡◌, inl, inr, ℕ, ◌<◌, ◌≤◌, true, false, List, [], ◌∷◌, ◌++◌, length, map, refl, sym, ap, subst}
+use Rattle.std.proofs.Common.{◌≡◌, inl, inr, ℕ, ◌<◌, ◌≤◌, true, false, List, [], ◌∷◌, ◌++◌, map, refl, sym, ap, subst}
 use Rattle.std.proofs.Common.{◌∙◌, arith}
-use Rattle.std.specs.Prelude.{Bool, Contains, Option, Some, ◌&&◌, ◌==◌, if◌then◌else◌, nat_le, nat_lt}
+use Rattle.std.specs.Prelude.{Bool, Contains, Some, ◌&&◌, ◌==◌, if◌then◌else◌, nat_le, nat_lt}
 use Rattle.std.specs.Arc.{arc_value}
 use Rattle.std.proofs.lemmas.Bool.{eq-eqb}
 use Rattle.std.proofs.lemmas.Bool.Decides.{nat_tests}
@@ -9,22 +9,18 @@ use Rattle.std.proofs.lemmas.List.{append-nil, append_assoc}
 use Rattle.std.proofs.lemmas.Option.{same_Some}
 use Rattle.r4_base.specs.Key.{rank}
 use Rattle.r4_base.specs.Node.{items_of}
-use Rattle.r4_branch.specs.Pieces.{next_of}
-use Rattle.r4_branch.specs.declared.piece.TwigPiece.{TwigPiece}
+use Rattle.r4_work.specs.r4_branch.Pieces.{next_of}
+use Rattle.r4_work.specs.r4_branch.declared.piece.TwigPiece.{TwigPiece}
 use Rattle.r4_base.specs.declared.key.Key.{Key}
-use Rattle.r4_cell.specs.Seen.{CellSeen, node_of}
-use Rattle.r4_cell.specs.declared.change.Fresh.{Fresh}
-use Rattle.r4_leaf.specs.Units.{LeafUnit}
-use Rattle.r4_patch.proofs.Members.{cases, none}
+use Rattle.r4_work.specs.r4_cell.Seen.{CellSeen, node_of}
+use Rattle.r4_work.specs.r4_cell.declared.change.Fresh.{Fresh}
+use Rattle.r4_work.specs.r4_leaf.Units.{LeafUnit}
+use Rattle.r4_work.proofs.r4_patch.Members.{cases, none}
 use Rattle.r4_work.specs.r4_edit.LeafParts.{IsRightPart, first_from, right_id}
-use Rattle.r4_row_gather.specs.Clearing.{AreSortedOut, Begins, Fate, Goes, IsBegunLater, IsLeafAt, IsShortened}
-use Rattle.r4_row_gather.specs.Clearing.{MayHave, Stays}
+use Rattle.r4_row_gather.specs.Clearing.{AreSortedOut, Begins, Goes, IsBegunLater, IsLeafAt, IsShortened}
+use Rattle.r4_row_gather.specs.Clearing.{Stays}
 use Rattle.r4_row_gather.specs.Clearing.{begins_in_way, coming, going, is_in_way, is_pointer, staying}
 use Rattle.r4_row_gather.specs.declared.clearing.Clearing.{Clearing}
-
-pub nothing : {A : Type 0} (xs : List A) → length xs ≡ 0 → xs ≡ []
-nothing [] none = refl
-nothing (x ∷ xs) none = absurd (omega (arith, none))
 
 -- the first unit from a key on is not below it
 pub first_behind : (k m : ℕ) (us : List LeafUnit) → first_from k us ≡ Some m → k ≤ m

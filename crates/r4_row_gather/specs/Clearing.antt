@@ -1,15 +1,17 @@
--- Leaves that go out of the way of what comes, or begin behind it (docs/volume.md, "Bodies in extents"). A key is its
--- rank.
+-- Leaves that go out of the way of what comes, or begin behind it (docs/volume.md, "Bodies in
+-- extents"). A key is its rank.
 use Rattle.std.specs.Prelude.{◌≡◌, ℕ, ◌<◌, ◌≤◌, ◌&&◌, Bool, true, false, List, [], ◌∷◌, ◌++◌}
 use Rattle.std.specs.Prelude.{map, nat_le, nat_lt, Contains}
 use Rattle.std.specs.Arc.{arc_value}
+use Rattle.std.specs.Global.{Global}
+use Rattle.std.specs.declared.sync.Arc.{Arc}
 use Rattle.r4_base.specs.Key.{rank}
 use Rattle.r4_base.specs.Node.{items_of}
-use Rattle.r4_branch.specs.Pieces.{next_of}
-use Rattle.r4_branch.specs.declared.piece.TwigPart.{TwigPart}
-use Rattle.r4_branch.specs.declared.piece.TwigPart.TheVariants.{Pointer, Blocks}
-use Rattle.r4_branch.specs.declared.piece.TwigPiece.{TwigPiece}
-use Rattle.r4_cell.specs.Seen.{CellSeen}
+use Rattle.r4_work.specs.r4_branch.Pieces.{next_of}
+use Rattle.r4_work.specs.r4_branch.declared.piece.TwigPart.{TwigPart}
+use Rattle.r4_work.specs.r4_branch.declared.piece.TwigPart.TheVariants.{Pointer, Blocks}
+use Rattle.r4_work.specs.r4_branch.declared.piece.TwigPiece.{TwigPiece}
+use Rattle.r4_work.specs.r4_cell.Seen.{CellSeen}
 use Rattle.r4_work.specs.r4_edit.LeafParts.{IsRightPart}
 use Rattle.r4_row_gather.specs.declared.clearing.Clearing.{Clearing}
 
@@ -30,7 +32,8 @@ begins_in_way from to (p ∷ ps) = is_in_way from to p
 
 -- ---- what becomes of pieces
 
--- A piece stays; or the leaf goes that it points to; or another one comes in the leaf's place, which begins later.
+-- A piece stays; or the leaf goes that it points to; or another one comes in the leaf's place,
+-- which begins later.
 pub data Fate : Type 0 where
   Stays : Fate
   Goes : CellSeen → Fate
@@ -71,7 +74,8 @@ pub record IsShortened (leaf later : CellSeen) : Type 0 where
   pub behind : rank leaf.lo ≤ rank later.lo
   pub within : rank later.lo < rank leaf.hi
 
--- Leaves to which the pieces point go where they have no items, or begin later; and no leaf's range becomes longer.
+-- Leaves to which the pieces point go where they have no items, or begin later; and no leaf's range
+-- becomes longer.
 abbrev pub MayHave : (hi : ℕ) → List TwigPiece → List Fate → Type 0
 MayHave hi [] [] = Unit {0}
 MayHave hi [] (f ∷ fates) = ⊥
@@ -85,37 +89,44 @@ MayHave hi (p ∷ ps) (Begins c d ∷ fates) = IsLeafAt (next_of hi ps) p c × I
 
 -- ---- one piece after the other
 
--- Behind other pieces comes one that points to a leaf, from the leaf's first unit on, which is not below the key; behind
--- other leaves comes the leaf that goes for it, and the one that comes.
-pub record IsBegunLater (to : ℕ) (p : TwigPiece) (leaf : CellSeen) (before after : Clearing) : Type 0 where
+-- what contracts see of shared cells
+abbrev pub cells_in : List (Arc CellSeen Global) → List CellSeen
+cells_in cells = map (λ c. arc_value c) cells
+
+-- Behind other pieces comes one that points to a leaf, from the leaf's first unit on, which is not
+-- below the key; behind other leaves comes the leaf that goes for it, and the one that comes.
+pub record IsBegunLater (to : ℕ) (p : TwigPiece) (leaf : CellSeen)
+    (before after : Clearing) : Type 0 where
   pub later : CellSeen
   pub is : IsShortened leaf later
   pub from : to ≤ rank later.lo
   pub stay : after.pieces.items ≡ before.pieces.items ++ record p { key = later.lo } ∷ []
-  pub go : map (λ c. arc_value c) after.gone.items ≡ map (λ c. arc_value c) before.gone.items ++ leaf ∷ []
-  pub come : map (λ c. arc_value c) after.come.items ≡ map (λ c. arc_value c) before.come.items ++ later ∷ []
+  pub go : cells_in after.gone.items ≡ cells_in before.gone.items ++ leaf ∷ []
+  pub come : cells_in after.come.items ≡ cells_in before.come.items ++ later ∷ []
 
--- Behind other pieces come those of these that stay, behind other leaves those that go, and behind others those that come.
--- The first piece stays, if it does not point to a leaf that begins in the range. None that stays does.
-pub record AreSortedOut (cells : List CellSeen) (from to hi : ℕ) (ps : List TwigPiece) (before after : Clearing)
-    : Type 0 where
+-- Behind other pieces come those of these that stay, behind other leaves those that go, and behind
+-- others those that come. The first piece stays, if it does not point to a leaf that begins in the
+-- range. None that stays does.
+pub record AreSortedOut (cells : List CellSeen) (from to hi : ℕ) (ps : List TwigPiece)
+    (before after : Clearing) : Type 0 where
   pub fates : List Fate
   pub may : MayHave hi ps fates
   pub stay : after.pieces.items ≡ before.pieces.items ++ staying ps fates
-  pub go : map (λ c. arc_value c) after.gone.items ≡ map (λ c. arc_value c) before.gone.items ++ going fates
-  pub come : map (λ c. arc_value c) after.come.items ≡ map (λ c. arc_value c) before.come.items ++ coming fates
+  pub go : cells_in after.gone.items ≡ cells_in before.gone.items ++ going fates
+  pub come : cells_in after.come.items ≡ cells_in before.come.items ++ coming fates
   pub among : (c : CellSeen) → Contains (going fates) c → Contains cells c
   pub first : begins_in_way from to ps ≡ false → next_of hi (staying ps fates) ≡ next_of hi ps
   pub clear : (p : TwigPiece) → Contains (staying ps fates) p → is_in_way from to p ≡ false
 
--- Of these pieces, those that point to leaves which begin in the range go, or point to leaves that begin behind it. The
--- leaves in whose place nothing comes have no items. The first piece stays.
-pub record IsCleared (cells : List CellSeen) (from to hi : ℕ) (ps : List TwigPiece) (x : Clearing) : Type 0 where
+-- Of these pieces, those that point to leaves which begin in the range go, or point to leaves that
+-- begin behind it. The leaves in whose place nothing comes have no items. The first piece stays.
+pub record IsCleared (cells : List CellSeen) (from to hi : ℕ) (ps : List TwigPiece)
+    (x : Clearing) : Type 0 where
   pub fates : List Fate
   pub may : MayHave hi ps fates
   pub pieces : x.pieces.items ≡ staying ps fates
-  pub gone : map (λ c. arc_value c) x.gone.items ≡ going fates
-  pub come : map (λ c. arc_value c) x.come.items ≡ coming fates
+  pub gone : cells_in x.gone.items ≡ going fates
+  pub come : cells_in x.come.items ≡ coming fates
   pub among : (c : CellSeen) → Contains (going fates) c → Contains cells c
   pub first : next_of hi (staying ps fates) ≡ next_of hi ps
   pub clear : (p : TwigPiece) → Contains (staying ps fates) p → is_in_way from to p ≡ false

@@ -1,15 +1,17 @@
--- A change that brings what has keys of a range below one twig (docs/volume.md, "Bodies in extents"). A key is its rank.
-use Rattle.std.specs.Prelude.{◌≡◌, ◌⊎◌, ℕ, ◌<◌, ◌≤◌, ◌==◌, ◌&&◌, nat_le, Bool, false, List, ◌++◌, Contains, None, Some}
+-- A change that brings what has keys of a range below one twig (docs/volume.md, "Bodies in
+-- extents"). A key is its rank.
+use Rattle.std.specs.Prelude.{◌≡◌, ◌⊎◌, ℕ, ◌<◌, ◌≤◌, ◌==◌, ◌&&◌, nat_le, Bool, false, List, ◌++◌}
+use Rattle.std.specs.Prelude.{Contains, None, Some}
 use Rattle.r4_base.specs.Key.{rank}
 use Rattle.r4_base.specs.Tree.{Name, Root, Store}
 use Rattle.r4_base.specs.Value.{Value}
-use Rattle.r4_cell.specs.Patch.{HaveNames, IsChange}
-use Rattle.r4_cell.specs.Seen.{CellSeen, node_of}
-use Rattle.r4_cell.specs.declared.change.Change.{Change}
-use Rattle.r4_patch.specs.Effect.{HasEffect}
-use Rattle.r4_patch.specs.Following.{without}
-use Rattle.r4_patch.specs.Joining.{ids_of, patch_of_change}
-use Rattle.r4_patch.specs.Part.{IsPart, MeetsPart}
+use Rattle.r4_work.specs.r4_cell.Patch.{HaveNames, IsChange}
+use Rattle.r4_work.specs.r4_cell.Seen.{CellSeen, node_of}
+use Rattle.r4_work.specs.r4_cell.declared.change.Change.{Change}
+use Rattle.r4_work.specs.r4_patch.Effect.{HasEffect}
+use Rattle.r4_work.specs.r4_patch.Following.{without}
+use Rattle.r4_work.specs.r4_patch.Joining.{ids_of, patch_of_change}
+use Rattle.r4_work.specs.r4_patch.Part.{IsPart, MeetsPart}
 use Rattle.r4_row_gather.specs.declared.gathering.Gathered.{Gathered}
 
 -- The cells stand in this part of a tree.
@@ -17,7 +19,8 @@ pub record StandIn (t : Store Value) (r : Root) (cells : List CellSeen) : Type 0
   pub part : IsPart t r
   pub stand : (c : CellSeen) → Contains cells c → t c.id ≡ Some (node_of c)
 
--- The change is one that this part of a tree meets, and no unit changes or comes to stand in another kind of cell.
+-- The change is one that this part of a tree meets, and no unit changes or comes to stand in
+-- another kind of cell.
 pub record IsStill (t : Store Value) (r : Root) (c : Change) : Type 0 where
   pub change : IsChange c.old c.new c.root
   pub meets : MeetsPart (patch_of_change c) t r
@@ -35,15 +38,17 @@ pub record HasTwigOf (cells : List CellSeen) (from to : ℕ) : Type 0 where
   pub begins : rank twig.lo ≤ from
   pub ends : to ≤ rank twig.hi
 
--- Of some cells of a part of a tree come others, with numbers of theirs: all keys of the range are below one twig that
--- comes. Where leaves go for that, no leaf begins in the range that a new twig names.
+-- Of some cells of a part of a tree come others, with numbers of theirs: all keys of the range are
+-- below one twig that comes. Where leaves go for that, no leaf begins in the range that a new twig
+-- names.
 pub record IsGathered (cells : List CellSeen) (from to : ℕ) (g : Gathered) : Type 0 where
   pub still : (t : Store Value) (r : Root) → StandIn t r cells → IsStill t r g.change
   pub root : g.change.root ≡ None
   pub old : (c : CellSeen) → Contains g.change.old c → Contains cells c
   pub new : (c : CellSeen) → Contains g.change.new c → Contains (ids_of g.change.old) c.id
   pub stand : g.cells ≡ g.change.new ++ without (ids_of g.change.old) cells
-  pub names : (t : Store Value) (r : Root) → StandIn t r cells → HaveNames cells → HaveNames g.cells
+  pub names : (t : Store Value) (r : Root) → StandIn t r cells → HaveNames cells
+      → HaveNames g.cells
   pub below : HasTwigOf g.change.new from to
   pub way : (c : CellSeen) → Contains g.change.old c → c.level ≡ 1 → (d : CellSeen)
       → Contains g.change.new d → d.level ≡ 2 → (n : Name) → Contains (node_of d).names n

@@ -1,10 +1,11 @@
 -- Pieces in parts, one for each twig (docs/volume.md, "Bodies in extents").
 use Rattle.std.specs.Prelude.{◌≡◌, ◌≤◌, List, ◌++◌, length, All}
-use Rattle.r4_branch.specs.Pieces.{twig_bytes}
-use Rattle.r4_branch.specs.declared.piece.TwigPiece.{TwigPiece}
+use Rattle.r4_work.specs.r4_branch.Pieces.{twig_bytes}
+use Rattle.r4_work.specs.r4_branch.declared.piece.TwigPiece.{TwigPiece}
 use Rattle.r4_rows.specs.Fewest.{EachFits, joined}
 
--- The parts have the pieces in their order; in each is one at least, and there is room for it in a twig.
+-- The parts have the pieces in their order; in each is one at least, and there is room for it in a
+-- twig.
 pub record AreParts (ps : List TwigPiece) (parts : List (List TwigPiece)) : Type 0 where
   pub are : joined parts ≡ ps
   pub some : All (λ (g : List TwigPiece). 1 ≤ length g) parts
@@ -12,4 +13,5 @@ pub record AreParts (ps : List TwigPiece) (parts : List (List TwigPiece)) : Type
 
 -- Where some parts have these pieces, the others have those too.
 abbrev pub HavePiecesToo : (more : List TwigPiece) → (parts others : List (List TwigPiece)) → Type 0
-HavePiecesToo more parts others = (ps : List TwigPiece) → AreParts ps parts → AreParts (ps ++ more) others
+HavePiecesToo more parts others =
+    (ps : List TwigPiece) → AreParts ps parts → AreParts (ps ++ more) others

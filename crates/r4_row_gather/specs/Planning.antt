@@ -1,8 +1,9 @@
--- Which pieces twigs beside each other get (docs/volume.md, "Bodies in extents"). A key is its rank.
+-- Which pieces twigs beside each other get (docs/volume.md, "Bodies in extents"). A key is its
+-- rank.
 use Rattle.std.specs.Prelude.{◌≡◌, ℕ, ◌≤◌, List, map, length, Contains, false}
-use Rattle.r4_branch.specs.Pieces.{next_of}
-use Rattle.r4_branch.specs.declared.piece.TwigPiece.{TwigPiece}
-use Rattle.r4_cell.specs.Seen.{CellSeen}
+use Rattle.r4_work.specs.r4_branch.Pieces.{next_of}
+use Rattle.r4_work.specs.r4_branch.declared.piece.TwigPiece.{TwigPiece}
+use Rattle.r4_work.specs.r4_cell.Seen.{CellSeen}
 use Rattle.r4_rows.specs.Fewest.{joined}
 use Rattle.r4_rows.specs.Packed.{AreTheirPieces}
 use Rattle.r4_row_gather.specs.Clearing.{Fate, MayHave, coming, going, is_in_way, staying}
@@ -10,8 +11,9 @@ use Rattle.r4_row_gather.specs.Finding.{IsRowFrom}
 use Rattle.r4_row_gather.specs.Parting.{AreParts}
 use Rattle.r4_row_gather.specs.declared.planning.Plan.{Plan}
 
--- The twigs are cells that stand beside each other among these. Of their pieces those stay, in their order, whose leaves do
--- not go without another in their place; these may be parted so. Where leaves go, none begins in the range then.
+-- The twigs are cells that stand beside each other among these. Of their pieces those stay, in
+-- their order, whose leaves do not go without another in their place; these may be parted so. Where
+-- leaves go, none begins in the range then.
 pub record IsPlanOf (cells : List CellSeen) (from to : ℕ) (x : Plan) : Type 0 where
   pub begin : ℕ
   pub hi : ℕ

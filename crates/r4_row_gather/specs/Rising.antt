@@ -4,8 +4,8 @@ use Rattle.r4_base.specs.Cell.{next_key}
 use Rattle.r4_base.specs.Extents.{pointer_of}
 use Rattle.r4_base.specs.Key.{rank}
 use Rattle.r4_base.specs.Node.{Item}
-use Rattle.r4_cell.specs.Seen.{CellSeen}
-use Rattle.r4_path.specs.Steps.{Follow}
+use Rattle.r4_work.specs.r4_cell.Seen.{CellSeen}
+use Rattle.r4_work.specs.r4_path.Steps.{Follow}
 use Rattle.r4_row_edit.specs.Climbing.{StandUp}
 use Rattle.r4_row_edit.specs.Over.{StandsOver}
 
@@ -17,10 +17,11 @@ pub record StandBeside (level : ℕ) (cells : List CellSeen) : Type 0 where
   pub along : Follow level lo hi cells
 
 -- Rows over one, up to one cell, each of cells among these.
-pub record AreRowsOver (cells : List CellSeen) (level : ℕ) (low : List CellSeen) (rows : List (List CellSeen)) : Type 0
-  where
-    pub up : StandUp 0 level low rows
-    pub among : (row : List CellSeen) → Contains rows row → (c : CellSeen) → Contains row c → Contains cells c
+pub record AreRowsOver (cells : List CellSeen) (level : ℕ) (low : List CellSeen)
+    (rows : List (List CellSeen)) : Type 0 where
+  pub up : StandUp 0 level low rows
+  pub among : (row : List CellSeen) → Contains rows row → (c : CellSeen) → Contains row c
+      → Contains cells c
 
 -- A row over one, of cells among these.
 pub record IsRowAbove (cells : List CellSeen) (level : ℕ) (low row : List CellSeen) : Type 0 where
@@ -41,7 +42,8 @@ pub record PointsTo (x : Item) (c : CellSeen) : Type 0 where
   pub to : pointer_of x.body ≡ Some c.id
   pub key : rank x.key ≡ rank c.lo
 
--- the first of the items point to the cells, one after the other, and the next one begins with a key
+-- the first of the items point to the cells, one after the other, and the next one begins with a
+-- key
 abbrev pub PointFirst : (hi end : ℕ) → List Item → List CellSeen → Type 0
 PointFirst hi end items [] = next_key hi items ≡ end
 PointFirst hi end [] (c ∷ cells) = ⊥

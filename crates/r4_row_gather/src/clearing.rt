@@ -4,13 +4,12 @@ ghost use Rattle.std.specs.Prelude.{◌≡◌, ◌<◌, ◌≤◌, ◌&&◌, [],
 ghost use Rattle.std.specs.Arc.{arc_value};
 ghost use Rattle.r4_base.specs.Key.{rank};
 ghost use Rattle.r4_base.specs.Node.{items_of};
-ghost use Rattle.r4_branch.specs.Pieces.{next_of};
+ghost use Rattle.r4_work.specs.r4_branch.Pieces.{next_of};
 ghost use Rattle.r4_row_gather.specs.Clearing.{AreSortedOut, IsBegunLater, IsCleared, IsLeafAt};
 ghost use Rattle.r4_row_gather.specs.Clearing.{IsShortened, begins_in_way, is_in_way, is_pointer};
 
 use r4_base::{Key, LEAF, Memory};
-use r4_cell::{Cell, Fresh};
-use r4_work::{KeyRange, TwigPart, TwigPiece, right_part};
+use r4_work::{Cell, Fresh, KeyRange, TwigPart, TwigPiece, right_part};
 use std::alloc::Global;
 use std::sync::Arc;
 

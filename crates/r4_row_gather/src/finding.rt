@@ -7,7 +7,7 @@ ghost use Rattle.r4_work.specs.Order.{IsAt, is_at};
 ghost use Rattle.r4_row_gather.specs.Finding.{BeginsAt, IsRowAmong};
 
 use r4_base::{Key, Memory};
-use r4_cell::{Cell, Cells};
+use r4_patch::{Cell, Cells};
 use std::alloc::Global;
 use std::sync::Arc;
 

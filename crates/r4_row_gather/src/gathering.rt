@@ -3,18 +3,16 @@
 ghost use Rattle.std.specs.Prelude.{◌≡◌, ◌++◌, IfOk, IfSome, map, true};
 ghost use Rattle.std.specs.Arc.{arc_value};
 ghost use Rattle.r4_base.specs.Key.{rank};
-ghost use Rattle.r4_patch.specs.Following.{without};
-ghost use Rattle.r4_patch.specs.Joining.{ids_of};
+ghost use Rattle.r4_work.specs.r4_patch.Following.{without};
+ghost use Rattle.r4_work.specs.r4_patch.Joining.{ids_of};
 ghost use Rattle.r4_row_gather.specs.Gathering.{HasTwigOf, IsGathered, is_twig_of};
 
 use crate::planning::{Plan, planned};
 use crate::rising::rows_over;
 use r4_base::{Memory, TWIG};
-use r4_cell::{Cell, Cells, Change};
-use r4_patch::follow;
-use r4_path::add;
+use r4_patch::{Cell, Cells, Change, follow};
 use r4_row_edit::shift_parted;
-use r4_work::KeyRange;
+use r4_work::{KeyRange, add};
 use std::alloc::Global;
 use std::sync::Arc;
 

@@ -9,7 +9,7 @@ use crate::clearing::{Clearing, cleared};
 use crate::finding::row_among;
 use crate::parting::parted;
 use r4_base::{Key, Memory, TWIG};
-use r4_cell::{Cell, Cells};
+use r4_patch::{Cell, Cells};
 use r4_row_edit::RowChange;
 use r4_squeeze::pieces_of_all;
 use r4_work::{KeyRange, TwigPiece};

@@ -11,7 +11,7 @@ ghost use Rattle.r4_row_gather.specs.Rising.{PointsTo, StandBeside};
 
 use crate::finding::row_among;
 use r4_base::{Key, Memory, POINTER, TWIG};
-use r4_cell::{Cell, Cells};
+use r4_patch::{Cell, Cells};
 use r4_row_edit::place_in;
 use r4_squeeze::{NodeItem, items_of_all};
 use r4_twig::pointer;
@@ -93,7 +93,8 @@ fn row_above(
 fn stand_over(alloc: Global, row: &[Arc<Cell>], low: &[Arc<Cell>]) -> Result<bool, Memory>
     requires { (l : ℕ) × MayStandOver l (map (λ c. arc_value c) low.now)
         (map (λ c. arc_value c) row.now) }
-    ensures { IfOk result (λ ok. ok ≡ true → (l : ℕ) → MayStandOver l (map (λ c. arc_value c) low.now)
+    ensures { IfOk result (λ ok. ok ≡ true → (l : ℕ)
+        → MayStandOver l (map (λ c. arc_value c) low.now)
         (map (λ c. arc_value c) row.now) → StandsOver l (map (λ c. arc_value c) low.now)
         (map (λ c. arc_value c) row.now)) }
 {

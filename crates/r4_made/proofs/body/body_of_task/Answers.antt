@@ -1,4 +1,4 @@
-use Rattle.std.proofs.Common.{◌≡◌, ◌^◌, false, Option, Some, None, ap, subst, sym, ◌∙◌, option_map}
+use Rattle.std.proofs.Common.{◌^◌, false, ap, subst, sym, ◌∙◌, option_map}
 use Rattle.std.specs.Arc.{arc_value}
 use Rattle.r4_put_tasks.specs.r4_build.r4_leaf_edits.Suiting.{SuitLeaves}
 use Rattle.r4_put_tasks.specs.r4_build.r4_reach.Touched.{body_key, body_of}

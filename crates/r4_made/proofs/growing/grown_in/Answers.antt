@@ -1,24 +1,18 @@
-use Rattle.std.proofs.Common.{◌≡◌, ◌∙◌, ℕ, Bool, ap, map, refl, subst, sym}
+use Rattle.std.proofs.Common.{◌∙◌, ℕ, ap, map, refl, subst, sym}
 use Rattle.std.specs.Arc.{arc_value}
-use Rattle.std.specs.Prelude.{Contains, List}
+use Rattle.std.specs.Prelude.{List}
 use Rattle.r4_put_tasks.specs.r4_allowed.Table.{budget_of}
-use Rattle.r4_put_tasks.specs.r4_build.r4_measure.r4_cell.Patch.{HaveNames}
-use Rattle.r4_put_tasks.specs.r4_build.r4_measure.r4_cell.Seen.{CellSeen}
-use Rattle.r4_put_tasks.specs.r4_build.r4_patch.Effect.{HasEffect}
-use Rattle.r4_put_tasks.specs.r4_build.r4_patch.Joining.{patch_of_change}
 use Rattle.r4_content.specs.Held.{edits_of}
-use Rattle.r4_put_tasks.specs.r4_lost_tasks.r4_extent_shrink.r4_extent_build.Looping.{AreKeysOfEach}
-use Rattle.r4_put_tasks.specs.r4_lost_tasks.r4_extent_shrink.r4_extent_change.Beside.{is_turning, turning_among}
-use Rattle.r4_put_tasks.specs.r4_lost_tasks.r4_extent_shrink.r4_extent_change.Changing.{CanGrow, grown_keys, grown_values}
-use Rattle.r4_put_tasks.specs.r4_lost_tasks.r4_extent_shrink.r4_extent_growth.Coming.{coming_beside, count_of, twigs_coming}
+use Rattle.r4_put_tasks.specs.r4_lost_tasks.r4_extent_shrink.r4_extent_change.Beside.{is_turning}
+use Rattle.r4_put_tasks.specs.r4_lost_tasks.r4_extent_shrink.r4_extent_growth.Coming.{coming_beside, count_of}
 use Rattle.r4_made.specs.Making.{CountsOnce, IsAllowance}
 use Rattle.r4_made.proofs.Grown.{can_be_grown, grown_moves}
 use Rattle.r4_made.proofs.Made.{own_numbers}
 use Rattle.r4_made.proofs.Once.{counts_once}
 use Rattle.r4_made.proofs.growing.grown_in.Goals as goal
 
-pub allowance-requires-clause-once : goal.allowance-requires-clause-once
-allowance-requires-clause-once c =
+pub allowance-requires : goal.allowance-requires
+allowance-requires c =
     let (t, (r, is)) = c.requires.task in
     let b = c.args.body.now in
     let e = edits_of c.args.edits.now in

@@ -1,4 +1,4 @@
-use Rattle.std.proofs.Common.{◌≡◌, ◌∙◌, ℕ, ap, map, refl, subst, sym}
+use Rattle.std.proofs.Common.{◌∙◌, ℕ, ap, map, refl, subst, sym}
 use Rattle.std.specs.Arc.{arc_value}
 use Rattle.std.specs.Option.{option_copied}
 use Rattle.std.specs.Prelude.{Contains, List}
@@ -21,8 +21,8 @@ use Rattle.r4_made.proofs.Made.{own_numbers}
 use Rattle.r4_made.proofs.Once.{counts_once}
 use Rattle.r4_made.proofs.putting.put.Goals as goal
 
-pub allowance-requires-clause-once : goal.allowance-requires-clause-once
-allowance-requires-clause-once c =
+pub allowance-requires : goal.allowance-requires
+allowance-requires c =
     let (t, (r, is)) = c.requires.task in
     let b = option_copied c.args.body in
     let e = edits_of c.args.edits.now in
@@ -41,9 +41,11 @@ change_of_putting-requires-clause-can c =
     let e = edits_of c.args.edits.now in
     let table = c.in_ok-_table._table.items in
     let may = c.in_ok-may_be_put.ensures c.if-not-branch.false in
-    let allowed = subst (λ (twigs : List (ℕ × ℕ)). IsAllowance task task.writes twigs table)
+    let allowed = subst (λ (cells : List CellSeen). IsAllowance task cells (twigs_putting b e task.writes) table)
+    c.as_slice-cells.ensures (subst (λ (twigs : List (ℕ × ℕ)). IsAllowance task
+    (map (λ x. arc_value x) c.as_slice-cells.result.now) twigs table)
     (ap (map count_of) c.as_slice.ensures.value ∙ (c.in_ok-twigs.ensures
-    ∙ ap (twigs_putting b e) c.as_slice-cells.ensures)) c.in_ok-_table.ensures in (
+    ∙ ap (twigs_putting b e) c.as_slice-cells.ensures)) c.in_ok-_table.ensures) in (
       budget_of table,
       (
         t,
@@ -60,9 +62,11 @@ returns c =
     let e = edits_of c.args.edits.now in
     let table = c.in_ok-_table._table.items in
     let may = c.in_ok-may_be_put.ensures c.if-not-branch.false in
-    let allowed = subst (λ (twigs : List (ℕ × ℕ)). IsAllowance task task.writes twigs table)
+    let allowed = subst (λ (cells : List CellSeen). IsAllowance task cells (twigs_putting b e task.writes) table)
+    c.as_slice-cells.ensures (subst (λ (twigs : List (ℕ × ℕ)). IsAllowance task
+    (map (λ x. arc_value x) c.as_slice-cells.result.now) twigs table)
     (ap (map count_of) c.as_slice.ensures.value ∙ (c.in_ok-twigs.ensures
-    ∙ ap (twigs_putting b e) c.as_slice-cells.ensures)) c.in_ok-_table.ensures in
+    ∙ ap (twigs_putting b e) c.as_slice-cells.ensures)) c.in_ok-_table.ensures) in
     let d = c.in_ok-change.change in
     let told = c.in_ok-change.ensures in
     record {

@@ -1,20 +1,18 @@
-use Rattle.std.proofs.Common.{◌≡◌, ◌∙◌, ℕ, Some, ap, map, refl, subst, sym}
+use Rattle.std.proofs.Common.{◌∙◌, ℕ, ap, map, subst, sym}
 use Rattle.std.specs.Arc.{arc_value}
-use Rattle.std.specs.Prelude.{Contains, List}
+use Rattle.std.specs.Prelude.{List}
 use Rattle.r4_put_tasks.specs.r4_allowed.Table.{budget_of}
-use Rattle.r4_put_tasks.specs.r4_build.r4_measure.r4_cell.Seen.{CellSeen}
 use Rattle.r4_content.specs.Held.{edits_of}
 use Rattle.r4_put_tasks.specs.r4_lost_tasks.r4_extent_shrink.r4_extent_growth.Coming.{count_of}
-use Rattle.r4_put_tasks.specs.r4_turned_tasks.r4_extent_turned.MayTurn.{MayTurnWhole, coming_turned, twig_turning}
-use Rattle.r4_put_tasks.specs.r4_turned_tasks.r4_extent_turned.Whole.{CanTurn}
+use Rattle.r4_put_tasks.specs.r4_turned_tasks.r4_extent_turned.MayTurn.{coming_turned}
 use Rattle.r4_put_tasks.specs.r4_turned_tasks.r4_extent_turned.r4_extent_turn.TurningIn.{turn_of}
 use Rattle.r4_made.specs.Making.{CountsOnce, IsAllowance}
 use Rattle.r4_made.proofs.Made.{own_numbers}
 use Rattle.r4_made.proofs.Turned.{can_be_turned, one_once, turned_moves}
 use Rattle.r4_made.proofs.turning.turned_at.Goals as goal
 
-pub allowance-requires-clause-once : goal.allowance-requires-clause-once
-allowance-requires-clause-once c =
+pub allowance-requires : goal.allowance-requires
+allowance-requires c =
     subst CountsOnce (sym (ap (map count_of) c.as_slice.ensures.value ∙ c.in_ok-twigs.ensures))
     (one_once (coming_turned c.args.body.now (edits_of c.args.edits.now) (turn_of c.args.turning.now)))
 

@@ -1,13 +1,12 @@
 use Rattle.std.proofs.Common.{◌≡◌, ◌∙◌, ◌∷◌, ◌++◌, [], ap, false, length, map, refl, rules, subst, sym, true}
 use Rattle.std.specs.Arc.{arc_value}
-use Rattle.std.proofs.lemmas.List.{map-append}
+use Rattle.std.proofs.lemmas.List.{map-append, nil_from_length}
 use Rattle.std.proofs.lemmas.Result.{IfOk-weaker}
 use Rattle.r4_base.specs.Key.{rank}
 use Rattle.r4_base.specs.Node.{items_of}
-use Rattle.r4_branch.specs.Pieces.{next_of}
-use Rattle.r4_cell.specs.Seen.{CellSeen}
-use Rattle.r4_row_gather.specs.Clearing.{AreSortedOut, IsBegunLater, IsLeafAt, begins_in_way, is_in_way}
-use Rattle.r4_row_gather.proofs.SortedOut.{nothing, sorted_begins, sorted_goes, sorted_none, sorted_stays}
+use Rattle.r4_work.specs.r4_cell.Seen.{CellSeen}
+use Rattle.r4_row_gather.specs.Clearing.{AreSortedOut, IsLeafAt, is_in_way}
+use Rattle.r4_row_gather.proofs.SortedOut.{sorted_begins, sorted_goes, sorted_none, sorted_stays}
 use Rattle.r4_row_gather.proofs.clearing.+sort_out.Goals as goal
 
 pub returns-in_default : goal.returns-in_default
@@ -17,7 +16,7 @@ returns-in_default t c = λ same.
     let to = rank c.args.keys.now.to in
     let zero : length c.args.pieces.now ≡ 0 = search rules in
     subst (λ ps. AreSortedOut cells from to (rank c.args.hi) ps c.args.sorted.now c.args.sorted.now)
-    (sym (nothing c.args.pieces.now zero))
+    (sym (nil_from_length c.args.pieces.now zero))
     (sorted_none cells from to (rank c.args.hi) c.args.sorted.now)
 
 pub returns-then-not-is_in_way : goal.returns-then-not-is_in_way

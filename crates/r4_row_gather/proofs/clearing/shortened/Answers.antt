@@ -1,12 +1,10 @@
-use Rattle.std.proofs.Common.{◌≡◌, ◌<◌, ◌≤◌, ◌∙◌, ap, arith, rules, subst, sym, true}
-use Rattle.std.specs.Prelude.{Some}
+use Rattle.std.proofs.Common.{◌≡◌, ◌<◌, ◌∙◌, ap, arith, rules, subst}
 use Rattle.std.specs.Option.{option_map}
 use Rattle.std.specs.Arc.{arc_value}
-use Rattle.std.proofs.lemmas.Bool.Decides.{nat_tests}
 use Rattle.r4_base.specs.Key.{rank}
-use Rattle.r4_cell.specs.Seen.{CellSeen}
+use Rattle.r4_work.specs.r4_cell.Seen.{CellSeen}
 use Rattle.r4_work.specs.r4_edit.LeafParts.{HasRight, right_id}
-use Rattle.r4_row_gather.proofs.SortedOut.{first_behind, is_shortened}
+use Rattle.r4_row_gather.proofs.SortedOut.{is_shortened}
 use Rattle.r4_row_gather.proofs.clearing.shortened.Goals as goal
 
 pub returns : goal.returns

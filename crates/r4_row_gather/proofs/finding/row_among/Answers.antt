@@ -2,7 +2,7 @@ use Rattle.std.proofs.Common.{◌∙◌, ◌∷◌, ◌++◌, [], ap, map, subst
 use Rattle.std.specs.Arc.{arc_value}
 use Rattle.std.proofs.lemmas.List.{map-append}
 use Rattle.r4_base.specs.Key.{rank}
-use Rattle.r4_cell.specs.Seen.{CellSeen}
+use Rattle.r4_work.specs.r4_cell.Seen.{CellSeen}
 use Rattle.r4_row_gather.specs.Finding.{IsRowFrom}
 use Rattle.r4_row_gather.proofs.Found.{one_more_row, one_row}
 use Rattle.r4_row_gather.proofs.finding.row_among.Goals as goal

@@ -1,6 +1,6 @@
 use Rattle.std.proofs.Common.{◌≡◌, ◌≤◌, ◌∙◌, ◌∷◌, ◌++◌, [], ap, arith, length, map, rules, subst, sym}
 use Rattle.std.proofs.lemmas.List.{map-append}
-use Rattle.r4_branch.specs.declared.piece.TwigPiece.{TwigPiece}
+use Rattle.r4_work.specs.r4_branch.declared.piece.TwigPiece.{TwigPiece}
 use Rattle.r4_row_gather.proofs.PartsTogether.{one_more_part}
 use Rattle.r4_row_gather.specs.Parting.{AreParts}
 use Rattle.r4_row_gather.proofs.parting.add_part.Goals as goal

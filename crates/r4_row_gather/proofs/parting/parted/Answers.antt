@@ -1,6 +1,6 @@
 use Rattle.std.proofs.Common.{arith}
 use Rattle.r4_base.specs.Key.{rank}
-use Rattle.r4_graft.proofs.Placed.{place_within}
+use Rattle.r4_work.proofs.r4_graft.Placed.{place_within}
 use Rattle.r4_row_gather.proofs.parting.parted.Goals as goal
 
 pub parted_at-requires-clause-end : goal.parted_at-requires-clause-end

@@ -2,8 +2,8 @@ use Rattle.std.proofs.Common.{◌≡◌, ◌∙◌, ap, drop, map, subst, sym, t
 use Rattle.std.specs.Arc.{arc_value}
 use Rattle.std.proofs.lemmas.List.{drop-map, take-append-drop}
 use Rattle.r4_base.specs.Key.{rank}
-use Rattle.r4_cell.specs.Seen.{CellSeen}
-use Rattle.r4_path.specs.Sharing.{items_of_cells}
+use Rattle.r4_work.specs.r4_cell.Seen.{CellSeen}
+use Rattle.r4_work.specs.r4_path.Sharing.{items_of_cells}
 use Rattle.r4_squeeze.proofs.TwigSlums.{last_hi}
 use Rattle.r4_squeeze.specs.Items.{item_meant, items_meant}
 use Rattle.r4_row_gather.proofs.Risen.{stands_over}
