@@ -3,7 +3,7 @@
 use crate::large::{Body, Large, Piece, Told, holds};
 use std::test::Fail;
 
-static ROWS: [Large; 3] = [
+static ROWS: [Large; 4] = [
     Large {
         name: "within a block, to a border and to nothing",
         blocks: 128,
@@ -289,6 +289,82 @@ committed a1\n",
                 Piece {
                     text: "\0",
                     times: 12_289,
+                },
+            ],
+        },
+        checked: "objects 2 faults 0\n",
+    },
+    Large {
+        name: "over the border of two twigs",
+        blocks: 1024,
+        runs: &[
+            Told {
+                text: "\
+script\n\
+begin\n\
+create /f\n\
+fill /f 0 1048576 97\n\
+end\n\
+commit\n\
+begin\n\
+truncate /f 5000\n\
+truncate /f 1048576\n\
+read /f 4999 3\n\
+read /f 1028094 4\n\
+end\n\
+commit\n",
+                trace: "\
+begin t1 s1\n\
+done t1 s1 c2 ok\n\
+done t1 s1 c3 ok\n\
+ended t1\n\
+sealed a1\n\
+committed a1\n\
+acked s1 t1\n\
+begin t2 s1\n\
+done t2 s1 c7 ok\n\
+done t2 s1 c8 ok\n\
+done t2 s1 c9 data 3 610000\n\
+done t2 s1 c10 data 4 00000000\n\
+ended t2\n\
+sealed a2\n\
+committed a2\n\
+acked s1 t2\n",
+            },
+            Told {
+                text: "\
+script\n\
+begin\n\
+write /f 1048575 Z\n\
+read /f 1048573 5\n\
+read /f 4999 3\n\
+end\n",
+                trace: "\
+begin t1 s1\n\
+done t1 s1 c2 ok\n\
+done t1 s1 c3 data 3 00005a\n\
+done t1 s1 c4 data 3 610000\n\
+ended t1\n\
+sealed a1\n\
+committed a1\n",
+            },
+        ],
+        listed: "d 0755 2 0 0 1 /\nf 0644 1 0 0 1048576 /f\n",
+        body: Body {
+            path: "/f",
+            line: "f 0644 1 0 0 1048576 /f\n",
+            pieces: &[
+                Piece {
+                    text: "a",
+                    times: 5000,
+                },
+                Piece {
+                    text: "\0",
+                    times: 1_043_575,
+                },
+                Piece {
+                    text: "Z",
+                    times: 1,
                 },
             ],
         },
