@@ -1,6 +1,6 @@
 -- What may be turned of the cells of a part of a tree that have the budget.
-use Rattle.std.proofs.Common.{◌≡◌, inl, inr, ℕ, ◌+◌, ◌-◌, ◌/◌, ◌<◌, ◌≤◌, Bool, true, false, List, [], ◌∷◌, length, refl, sym, ap, subst, arith}
-use Rattle.std.specs.Prelude.{Contains, None, Option, Some, find, if◌then◌else◌}
+use Rattle.std.proofs.Common.{◌≡◌, inl, inr, ℕ, ◌+◌, ◌-◌, ◌/◌, ◌<◌, ◌≤◌, Bool, true, false, List, [], ◌∷◌, length, refl, sym, ap, subst, arith, ◌∙◌, ◌*◌}
+use Rattle.std.specs.Prelude.{Contains, None, Option, Some, find, if◌then◌else◌, not, ◌==◌, ◌&&◌, ◌++◌}
 use Rattle.std.specs.List.{filter}
 use Rattle.std.proofs.lemmas.Option.{none-some, same_Some}
 use Rattle.r4_base.specs.Key.{rank}
@@ -18,9 +18,20 @@ use Rattle.r4_extent_shrink.specs.r4_extent_growth.r4_measure.r4_cell.Patch.{Hav
 use Rattle.r4_extent_shrink.specs.r4_extent_growth.r4_measure.r4_cell.Seen.{CellSeen, node_of}
 use Rattle.r4_extent_shrink.specs.r4_extent_growth.r4_measure.r4_cell.declared.change.Fresh.{Fresh}
 use Rattle.r4_extent_shrink.specs.r4_extent_growth.r4_measure.r4_edit.Extents.{given_cells}
+use Rattle.r4_extent_shrink.specs.r4_extent_growth.r4_measure.r4_edit.LeafParts.{HasRight}
+use Rattle.r4_extent_shrink.proofs.r4_extent_growth.r4_measure.r4_edit.OverLeaf.{first_there}
+use Rattle.r4_extent_shrink.specs.r4_extent_growth.r4_measure.r4_leaf.Units.{is_between}
+use Rattle.r4_extent_shrink.specs.r4_extent_growth.r4_extent_build.Growing.{end_after}
+use Rattle.r4_base.specs.declared.key.Key.{Key}
+use Rattle.std.proofs.lemmas.Bool.{and_parts}
+use Rattle.std.proofs.lemmas.List.{append-nil}
+use Rattle.r4_extent_shrink.proofs.r4_extent_growth.Turns.{each}
+use Rattle.r4_extent_shrink.proofs.r4_extent_growth.r4_extent_loss.r4_extent_edit.ExtentEffect.{is_on}
+use Rattle.r4_extent_turn.proofs.Bodies.{coming_is}
+use Rattle.r4_extent_shrink.specs.r4_extent_growth.r4_extent_build.r4_extent_edit.Turning.{last_leaf}
 use Rattle.r4_extent_shrink.specs.r4_extent_growth.r4_measure.r4_path.Steps.{name_of}
 use Rattle.r4_extent_shrink.specs.r4_extent_growth.r4_measure.r4_reach.Needs.{pieces_after}
-use Rattle.r4_extent_shrink.specs.r4_extent_growth.r4_measure.r4_reach.Touched.{Body, first_byte}
+use Rattle.r4_extent_shrink.specs.r4_extent_growth.r4_measure.r4_reach.Touched.{Body, coming, first_byte}
 use Rattle.r4_extent_shrink.specs.r4_extent_growth.r4_measure.r4_work.Working.{AreCellsIn}
 use Rattle.r4_extent_shrink.proofs.r4_extent_growth.r4_extent_change.Chosen.{picked}
 use Rattle.r4_extent_shrink.proofs.r4_extent_growth.r4_extent_loss.r4_extent_edit.TurnGraft.{distinct_leaves}
@@ -33,10 +44,14 @@ use Rattle.r4_extent_turn.proofs.AskedRoom.{asked_room}
 use Rattle.r4_extent_turn.proofs.Keeps.{ends_before}
 use Rattle.r4_extent_turned.specs.Finding.{is_leaf_of, is_twig_of, turn_among, turn_with}
 use Rattle.r4_extent_turned.specs.MayTurn.{MayTurnWhole, coming_turned, twig_turning}
-use Rattle.r4_extent_turned.specs.Suiting.{pieces_turned}
+use Rattle.r4_extent_turned.specs.Suiting.{is_clear, pieces_turned}
 use Rattle.r4_extent_turned.specs.Whole.{CanTurn}
 
 -- ---- what was found is among the cells
+
+last_there : (c : CellSeen) (cs : List CellSeen) → Contains (c ∷ cs) (last_leaf c cs)
+last_there c [] = here c []
+last_there c (d ∷ ds) = later c (last_leaf d ds) (d ∷ ds) (last_there d ds)
 
 found_in : (p : CellSeen → Bool) (cells : List CellSeen) (c : CellSeen) → find p cells ≡ Some c → Contains cells c
 found_in p [] c is = absurd (none-some c is)
@@ -135,16 +150,46 @@ module _ (t : Store Value) (r : Root) (f : Fresh) (cells : List CellSeen) (in_pa
       no_holes = may.no_holes;
     }
 
+    abbrev stays_none : Bool
+    stays_none = (last_of x).level == 1 && is_clear (coming b).1 (rank (last_of x).hi) (last_of x)
+
     one_right : (o : Option CellSeen) → length (given_cells o) ≤ 1
     one_right None = omega arith
     one_right (Some c) = omega arith
 
+    -- nothing stays of the last leaf that has no unit behind the blocks that come
+    none_right : stays_none ≡ true → (to : Key) → rank to ≡ end_after b → (id : ℕ) → (o : Option CellSeen)
+        → HasRight (last_of x) to id o → length (given_cells o) ≤ 0
+    none_right is to at id None has = omega arith
+    none_right is to at id (Some c) has =
+        let (v, unit, k) = first_there (rank to) (node_of (last_of x)).units (rank c.lo) has.from in
+        let node = turn_for.nodes (last_of x) (last_there x.leaf x.more) in
+        let (low, high) = node.unit_in (rank c.lo) v unit in
+        let hi = hi_is (last_of x) in
+        let come : (coming b).1 ≡ end_after b = ap (λ (r : ℕ × ℕ). r.1) (coming_is b may.first may.turning) in
+        let clear = (and_parts ((last_of x).level == 1) (is_clear (coming b).1 (rank (last_of x).hi) (last_of x)) is).1 in
+        let off = each (λ (u : ℕ × Value). not (is_between (coming b).1 (rank (last_of x).hi) u.0))
+        (node_of (last_of x)).units clear (rank c.lo, v) unit in
+        let on = is_on (coming b).1 (rank (last_of x).hi) (rank c.lo) (omega (arith, come, at, k)) (omega (arith, high, hi)) in
+        absurd (let f : false ≡ true = sym (ap not on) ∙ off in cc)
+
     -- whatever stays of the leaves
-    needs : (s : Kept) → AreKept b x s → twig_bytes (told_pieces b e x s) ≤ twig_bytes (pieces_turned b e x.twig)
-    needs s kept =
-        let asked = asked_room b x turn_for [] (λ p at gone. absurd cc) s kept may.first may.turning e 1 (let h = one_right s.right in omega (arith, h)) in
-        let more = bytes_more (pieces_after (Some b) e (node_of x.twig) []) (record { key = x.twig.lo; part = Pointer (record { 0 = x.twig.id }) }) in
-        omega (arith, asked, more)
+    needs : (s : Kept) → AreKept b x s → twig_bytes (told_pieces b e x s) ≤ twig_bytes (pieces_turned b e x.twig (last_of x))
+    needs s kept = by stays_none refl
+      where
+        asked : (more : ℕ) → length (given_cells s.right) ≤ more → twig_bytes (told_pieces b e x s) ≤ twig_bytes (pieces_after (Some b) e (node_of x.twig) []) + 46 * more
+        asked more few = asked_room b x turn_for [] (λ p at gone. absurd cc) s kept may.first may.turning e more (omega (arith, few))
+
+        by : (t : Bool) → stays_none ≡ t → twig_bytes (told_pieces b e x s)
+            ≤ twig_bytes (pieces_after (Some b) e (node_of x.twig) [] ++ (if t then [] else (record { key = x.twig.lo; part = Pointer (record { 0 = x.twig.id }) } ∷ [])))
+        by true is =
+            let few = asked 0 (none_right is kept.to kept.to_is kept.right_id s.right kept.right) in
+            let same = ap twig_bytes (append-nil (pieces_after (Some b) e (node_of x.twig) [])) in
+            omega (arith, few, same)
+        by false is =
+            let few = asked 1 (one_right s.right) in
+            let more = bytes_more (pieces_after (Some b) e (node_of x.twig) []) (record { key = x.twig.lo; part = Pointer (record { 0 = x.twig.id }) }) in
+            omega (arith, few, more)
 
     fewer : (n m : ℕ) → n ≤ m → (n - 4068 + 1023) / 1024 ≤ (m - 4068 + 1023) / 1024
     fewer n m h = omega (arith, h)
@@ -172,7 +217,7 @@ module _ (t : Store Value) (r : Root) (f : Fresh) (cells : List CellSeen) (in_pa
       bytes = λ s kept. let n = needs s kept in let m = may.bytes in omega (arith, n, m);
       come = λ s kept.
           let told = suffices (coming_turned b e x) (0, omega arith, refl) in
-          let less = fewer (twig_bytes (told_pieces b e x s)) (twig_bytes (pieces_turned b e x.twig)) (needs s kept) in
+          let less = fewer (twig_bytes (told_pieces b e x s)) (twig_bytes (pieces_turned b e x.twig (last_of x))) (needs s kept) in
           omega (arith, told, less);
       before = may.before;
       lie = may.lie;

@@ -34,7 +34,7 @@ use Rattle.r4_extent_shrink.proofs.r4_extent_growth.r4_measure.r4_work.UnitMembe
 use Rattle.r4_extent_turn.specs.Turning.{IsTurningBody, Turn, blocks_turned, in_turned, last_of, leaves_of, told_extent}
 use Rattle.r4_extent_turn.proofs.ToldRuns.{told_are}
 use Rattle.r4_extent_turned.specs.MayTurn.{MayTurnWhole}
-use Rattle.r4_extent_turned.specs.Suiting.{changes_before, has_leaves, has_numbers, is_clear, leaves_suit, lie_around, lie_beside, pieces_turned, twig_suits}
+use Rattle.r4_extent_turned.specs.Suiting.{changes_before, has_leaves, has_numbers, is_clear, leaves_suit, lie_around, lie_beside, pieces_turned, right_pointer, twig_suits}
 
 on_if : (v : Bool) → not v ≡ true → v ≡ false
 on_if true h = absurd cc
@@ -126,7 +126,7 @@ enough f n m on =
     omega (arith, own, others)
 
 module _ (b : Body) (e : Edits) (f : Fresh) (cells : List CellSeen) (x : Turn) (first : Key) (turning : IsTurningBody b first) (lie : lie_in_leaves cells e ≡ true) (room : have_room (without_bytes e) cells ≡ true)
-    (changes : list_all (changes_before b (without_bytes e)) cells ≡ true) (has : has_leaves b x.twig (last_of x) ≡ true) (leaves : leaves_suit b x.leaf x.more ≡ true) (twig : twig_suits b e f cells x.twig ≡ true)
+    (changes : list_all (changes_before b (without_bytes e)) cells ≡ true) (has : has_leaves b x.twig (last_of x) ≡ true) (leaves : leaves_suit b x.leaf x.more ≡ true) (twig : twig_suits b e f cells x.twig (last_of x) ≡ true)
     (sound : (c : CellSeen) → Contains cells c → c.level ≡ 1 → IsSound c) (pieces : ArePiecesOf x.twig (twig_pieces x.twig)) where
   in_twig : (x.twig.level ≡ 2) × (is_between (rank x.twig.lo) (rank x.twig.hi) (first_byte b) ≡ true) × (rank (last_of x).lo < rank x.twig.hi)
   in_twig =
@@ -144,24 +144,24 @@ module _ (b : Body) (e : Edits) (f : Fresh) (cells : List CellSeen) (x : Turn) (
       let (one, two) = and_parts beside there front in
       (one, two, clear)
 
-  twig_told : (list_all (λ p. not (is_hole_of b p)) (twig_pieces x.twig) ≡ true) × (twig_bytes (pieces_turned b e x.twig) ≤ 16000) × (has_numbers f (length (pieces_turned b e x.twig)) (length cells) ≡ true)
+  twig_told : (list_all (λ p. not (is_hole_of b p)) (twig_pieces x.twig) ≡ true) × (twig_bytes (pieces_turned b e x.twig (last_of x)) ≤ 16000) × (has_numbers f (length (pieces_turned b e x.twig (last_of x))) (length cells) ≡ true)
   twig_told =
       let none = list_all (λ p. not (is_hole_of b p)) (twig_pieces x.twig) in
-      let small = nat_le (twig_bytes (pieces_turned b e x.twig)) 16000 in
-      let numbers = has_numbers f (length (pieces_turned b e x.twig)) (length cells) in
+      let small = nat_le (twig_bytes (pieces_turned b e x.twig (last_of x))) 16000 in
+      let numbers = has_numbers f (length (pieces_turned b e x.twig (last_of x))) (length cells) in
       let (one, rest) = and_parts none (small && numbers) twig in
       let (two, three) = and_parts small numbers rest in
-      (one, leb-true (twig_bytes (pieces_turned b e x.twig)) 16000 two, three)
+      (one, leb-true (twig_bytes (pieces_turned b e x.twig (last_of x))) 16000 two, three)
 
   no_holes : (p : TwigPiece) → Contains (twig_pieces x.twig) p → is_hole_of b p ≡ false
   no_holes p at = on_if (is_hole_of b p) (each (λ (q : TwigPiece). not (is_hole_of b q)) (twig_pieces x.twig) twig_told.0 p at)
 
   -- each block that comes is one of the pieces
-  few_blocks : blocks_turned b e ≤ length (pieces_turned b e x.twig)
+  few_blocks : blocks_turned b e ≤ length (pieces_turned b e x.twig (last_of x))
   few_blocks =
       let after : List TwigPiece = pieces_after (Some b) e (node_of x.twig) [] in
       let long = (told_are b first turning e x.twig pieces in_twig.1 no_holes after refl).0 in
-      let more = length-append after (record { key = x.twig.lo; part = Pointer (record { 0 = x.twig.id }) } ∷ []) in
+      let more = length-append after (right_pointer b x.twig (last_of x)) in
       let few = few_coming (told_extent b e) in
       omega (arith, long, more, few)
 
@@ -182,5 +182,5 @@ module _ (b : Body) (e : Edits) (f : Fresh) (cells : List CellSeen) (x : Turn) (
     before = before b e cells lie changes;
     lie = λ k at. lies_found cells k e lie at;
     room = λ c at. leaf_room (without_bytes e) c (each (has_room (without_bytes e)) cells room c at);
-    numbers = let n = enough f (length (pieces_turned b e x.twig)) (length cells) twig_told.2 in let m = few_blocks in omega (arith, n, m);
+    numbers = let n = enough f (length (pieces_turned b e x.twig (last_of x))) (length cells) twig_told.2 in let m = few_blocks in omega (arith, n, m);
   }

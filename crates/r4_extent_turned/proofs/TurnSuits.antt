@@ -17,17 +17,17 @@ some_first f (x ∷ xs) h = (f x, map f xs, refl)
 
 -- all that is asked of a turn
 abbrev pub turn_suits : Body → Edits → Fresh → List CellSeen → Turn → Bool
-turn_suits b e f cells x = has_leaves b x.twig (last_of x) && (leaves_suit b x.leaf x.more && twig_suits b e f cells x.twig)
+turn_suits b e f cells x = has_leaves b x.twig (last_of x) && (leaves_suit b x.leaf x.more && twig_suits b e f cells x.twig (last_of x))
 
 module _ (b : Body) (e : Edits) (f : Fresh) (cells : List CellSeen) (twig : CellSeen) (cs : List CellSeen) (leaf : CellSeen) (more : List CellSeen) (same : cs ≡ leaf ∷ more) where
   as_is : turn_suits b e f cells (turn_from twig (leaf ∷ more)) ≡ turn_suits b e f cells (turn_from twig cs)
   as_is = ap (λ zs. turn_suits b e f cells (turn_from twig zs)) (sym same)
 
   pub not_there : has_leaves b twig (last_leaf leaf more) ≡ false → false ≡ turn_suits b e f cells (turn_from twig cs)
-  not_there off = and_off _ (leaves_suit b leaf more && twig_suits b e f cells twig) false off refl ∙ as_is
+  not_there off = and_off _ (leaves_suit b leaf more && twig_suits b e f cells twig (last_leaf leaf more)) false off refl ∙ as_is
 
   pub not_lying : has_leaves b twig (last_leaf leaf more) ≡ true → leaves_suit b leaf more ≡ false → false ≡ turn_suits b e f cells (turn_from twig cs)
-  not_lying on off = and_on _ (leaves_suit b leaf more && twig_suits b e f cells twig) false on (and_off _ (twig_suits b e f cells twig) false off refl) ∙ as_is
+  not_lying on off = and_on _ (leaves_suit b leaf more && twig_suits b e f cells twig (last_leaf leaf more)) false on (and_off _ (twig_suits b e f cells twig (last_leaf leaf more)) false off refl) ∙ as_is
 
-  pub as_twig : has_leaves b twig (last_leaf leaf more) ≡ true → leaves_suit b leaf more ≡ true → (ok : Bool) → ok ≡ twig_suits b e f cells twig → ok ≡ turn_suits b e f cells (turn_from twig cs)
-  as_twig on lie ok is = and_on _ (leaves_suit b leaf more && twig_suits b e f cells twig) ok on (and_on _ (twig_suits b e f cells twig) ok lie is) ∙ as_is
+  pub as_twig : has_leaves b twig (last_leaf leaf more) ≡ true → leaves_suit b leaf more ≡ true → (ok : Bool) → ok ≡ twig_suits b e f cells twig (last_leaf leaf more) → ok ≡ turn_suits b e f cells (turn_from twig cs)
+  as_twig on lie ok is = and_on _ (leaves_suit b leaf more && twig_suits b e f cells twig (last_leaf leaf more)) ok on (and_on _ (twig_suits b e f cells twig (last_leaf leaf more)) ok lie is) ∙ as_is

@@ -38,7 +38,7 @@ may_turn b e f cells x =
     (turns_out b && lie_in_leaves cells e)
     && ((have_room (without_bytes e) cells && list_all (changes_before b (without_bytes e)) cells)
     && (has_leaves b x.twig (last_of x)
-    && (leaves_suit b x.leaf x.more && twig_suits b e f cells x.twig)))
+    && (leaves_suit b x.leaf x.more && twig_suits b e f cells x.twig (last_of x))))
 
 -- The same, in the words of `CanTurn`: all that it asks, but for what is known of the part of a
 -- tree in which the cells stand, and of the budget.
@@ -56,7 +56,7 @@ pub record MayTurnWhole (b : Body) (e : Edits) (f : Fresh) (cells : List CellSee
   pub short : (c : CellSeen) (k : ℕ) (v : Value) → Contains (leaves_of x) c
       → Contains (node_of c).units (k, v) → in_turned b k ≡ true → k < first_byte b + b.was
   pub no_holes : (p : TwigPiece) → Contains (twig_pieces x.twig) p → is_hole_of b p ≡ false
-  pub bytes : twig_bytes (pieces_turned b e x.twig) ≤ 16000
+  pub bytes : twig_bytes (pieces_turned b e x.twig (last_of x)) ≤ 16000
   pub before : (k : ℕ) → is_in (changed (without_bytes e)) k ≡ true → k < first_byte b
   pub lie : (k : ℕ) → is_in (changed (without_bytes e)) k ≡ true → LiesInLeaf cells k
   pub room : (c : CellSeen) → Contains cells c → c.level ≡ 1
@@ -66,7 +66,7 @@ pub record MayTurnWhole (b : Body) (e : Edits) (f : Fresh) (cells : List CellSee
 
 -- the twig's number, and how many twigs may come beside it once it has had its turn
 abbrev pub coming_turned : Body → Edits → Turn → ℕ × ℕ
-coming_turned b e x = (x.twig.id, extra_twigs (pieces_turned b e x.twig))
+coming_turned b e x = (x.twig.id, extra_twigs (pieces_turned b e x.twig (last_of x)))
 
 -- those of the one twig
 abbrev pub twig_turning : Body → Edits → Turn → List (ℕ × ℕ)

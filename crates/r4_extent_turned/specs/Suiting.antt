@@ -1,7 +1,7 @@
 -- Whether a twig and its leaves may be turned, as their ranges, units and pieces tell it
 -- (docs/volume.md, "Bodies in extents"). A key is its rank.
 use Rattle.std.specs.Prelude.{ℕ, ◌+◌, ◌++◌, ◌-◌, ◌/◌, ◌==◌, ◌&&◌, ◌||◌, nat_le, nat_lt, not, Bool}
-use Rattle.std.specs.Prelude.{true, List, [], ◌∷◌, length, Some}
+use Rattle.std.specs.Prelude.{true, List, [], ◌∷◌, if◌then◌else◌, length, Some}
 use Rattle.std.specs.List.{list_all}
 use Rattle.r4_base.specs.Key.{rank}
 use Rattle.r4_content.specs.Bodies.{larger}
@@ -17,7 +17,7 @@ use Rattle.r4_extent_shrink.specs.r4_extent_growth.r4_measure.r4_cell.declared.c
 use Rattle.r4_extent_shrink.specs.r4_extent_growth.r4_measure.r4_leaf.Units.{is_between}
 use Rattle.r4_extent_shrink.specs.r4_extent_growth.r4_measure.r4_path.TwigPieces.{twig_pieces}
 use Rattle.r4_extent_shrink.specs.r4_extent_growth.r4_measure.r4_reach.Needs.{is_met, pieces_after}
-use Rattle.r4_extent_shrink.specs.r4_extent_growth.r4_measure.r4_reach.Touched.{Body, first_byte}
+use Rattle.r4_extent_shrink.specs.r4_extent_growth.r4_measure.r4_reach.Touched.{Body, coming, first_byte}
 
 -- ---- leaves
 
@@ -60,12 +60,17 @@ has_leaves b twig last =
     && (is_between (rank twig.lo) (rank twig.hi) (first_byte b)
     && nat_lt (rank last.lo) (rank twig.hi))
 
--- the pieces that the twig is to have, where no pointer went, and a pointer more: what stays of the
--- last leaf needs its room, wherever it stands
-abbrev pub pieces_turned : Body → Edits → (twig : CellSeen) → List TwigPiece
-pieces_turned b e twig =
-    pieces_after (Some b) e (node_of twig) []
-    ++ (record { key = twig.lo; part = Pointer (record { 0 = twig.id }) } ∷ [])
+-- a pointer, where something stays of the last leaf behind the blocks that come: it needs its room,
+-- wherever it stands
+abbrev pub right_pointer : Body → (twig last : CellSeen) → List TwigPiece
+right_pointer b twig last =
+    if (last.level == 1) && is_clear (coming b).1 (rank last.hi) last then []
+    else (record { key = twig.lo; part = Pointer (record { 0 = twig.id }) } ∷ [])
+
+-- the pieces that the twig is to have, where no pointer went, and that pointer
+abbrev pub pieces_turned : Body → Edits → (twig last : CellSeen) → List TwigPiece
+pieces_turned b e twig last =
+    pieces_after (Some b) e (node_of twig) [] ++ right_pointer b twig last
 
 -- there are so many numbers: one for each of these pieces, 194 for the twig and for what stays of
 -- the leaves, and 64 for each cell
@@ -80,6 +85,6 @@ pieces_suit b f m old new =
     list_all (λ p. not (is_hole_of b p)) old
     && (nat_le (twig_bytes new) 16000 && has_numbers f (length new) m)
 
-abbrev pub twig_suits : Body → Edits → Fresh → List CellSeen → (twig : CellSeen) → Bool
-twig_suits b e f cells twig =
-    pieces_suit b f (length cells) (twig_pieces twig) (pieces_turned b e twig)
+abbrev pub twig_suits : Body → Edits → Fresh → List CellSeen → (twig last : CellSeen) → Bool
+twig_suits b e f cells twig last =
+    pieces_suit b f (length cells) (twig_pieces twig) (pieces_turned b e twig last)

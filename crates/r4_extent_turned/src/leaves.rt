@@ -159,8 +159,8 @@ fn are_clear(alloc: Global, body: &SizedBody, leaves: &[Arc<Cell>]) -> Result<bo
     Ok(true)
 }
 
-// Whether a leaf has no unit at the keys of an interval.
-fn is_clear(alloc: Global, leaf: &Cell, within: Interval) -> Result<bool, Memory>
+/// Whether a leaf has no unit at the keys of an interval. The only error is want of memory.
+pub(crate) fn is_clear(alloc: Global, leaf: &Cell, within: Interval) -> Result<bool, Memory>
     requires { leaf.now.level ≡ 1 }
     ensures { IfOk result (λ ok. ok ≡ is_clear (rank within.from) (rank within.to) leaf.now) }
 {

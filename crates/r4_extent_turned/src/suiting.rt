@@ -1,11 +1,12 @@
 //! Whether a command's whole change may be made of the cells of its task, where its body comes to
 //! extents (docs/volume.md, "Bodies in extents").
 
-ghost use Rattle.std.specs.Prelude.{◌≡◌, ◌&&◌, ◌∷◌, [], Contains, IfOk, List, Some, length, map};
+ghost use Rattle.std.specs.Prelude.{◌≡◌, ◌==◌, ◌&&◌, ◌∷◌, [], Contains, IfOk, List, Some, length, map};
 ghost use Rattle.std.specs.Prelude.{not, true};
 ghost use Rattle.std.specs.Arc.{arc_value};
 ghost use Rattle.std.specs.List.{list_all};
 ghost use Rattle.r4_base.specs.declared.key.Key.{Key as KeySeen};
+ghost use Rattle.r4_base.specs.Key.{rank};
 ghost use Rattle.r4_content.specs.Held.{edits_of};
 ghost use Rattle.r4_extent_shrink.specs.r4_extent_growth.Coming.{count_of};
 ghost use Rattle.r4_extent_shrink.specs.r4_extent_growth.Lying.{have_room, lie_in_leaves};
@@ -15,17 +16,17 @@ ghost use Rattle.r4_extent_shrink.specs.r4_extent_growth.r4_extent_demands.Sizes
 ghost use Rattle.r4_extent_shrink.specs.r4_extent_growth.r4_measure.r4_cell.Seen.{CellSeen};
 ghost use Rattle.r4_extent_shrink.specs.r4_extent_growth.r4_measure.r4_path.Sharing.{IsSound};
 ghost use Rattle.r4_extent_shrink.specs.r4_extent_growth.r4_measure.r4_path.TwigPieces.{ArePiecesOf, twig_pieces};
-ghost use Rattle.r4_extent_shrink.specs.r4_extent_growth.r4_measure.r4_reach.Touched.{turns_out};
+ghost use Rattle.r4_extent_shrink.specs.r4_extent_growth.r4_measure.r4_reach.Touched.{coming, turns_out};
 ghost use Rattle.r4_extent_turn.specs.Turning.{IsTurningBody, last_of};
 ghost use Rattle.r4_extent_turn.specs.TurningIn.{turn_of};
 ghost use Rattle.r4_extent_turned.specs.MayTurn.{MayTurnWhole, may_turn, twig_turning};
-ghost use Rattle.r4_extent_turned.specs.Suiting.{changes_before, has_leaves, has_numbers};
+ghost use Rattle.r4_extent_turned.specs.Suiting.{changes_before, has_leaves, has_numbers, is_clear};
 ghost use Rattle.r4_extent_turned.specs.Suiting.{leaves_suit, pieces_suit, pieces_turned};
 ghost use Rattle.r4_extent_turned.specs.Suiting.{twig_suits};
 
-use crate::leaves::{change_before, leaves_suit};
+use crate::leaves::{change_before, is_clear, leaves_suit};
 use r4_base::{Memory, NodeId};
-use r4_content::Edits;
+use r4_content::{Edits, Interval};
 use r4_extent_shrink::{
     Cell, Fresh, SizedBody, TwigPart, TwigPiece, extra_twigs, have_room, lie_in_leaves,
     pieces_after, pieces_of_cell, twig_bytes, without_bytes,
@@ -113,7 +114,7 @@ fn turn_suits(
         ≡ (has_leaves body.now (turn_of turning.now).twig (last_of (turn_of turning.now))
         && (leaves_suit body.now (turn_of turning.now).leaf (turn_of turning.now).more
         && twig_suits body.now (edits_of edits.now) fresh.now (map (λ c. arc_value c) cells.now)
-        (turn_of turning.now).twig))) }
+        (turn_of turning.now).twig (last_of (turn_of turning.now))))) }
     ensures pieces { IfOk result (λ ok. ok ≡ true
         → ArePiecesOf (turn_of turning.now).twig (twig_pieces (turn_of turning.now).twig)) }
 {
@@ -128,7 +129,7 @@ fn turn_suits(
     if !leaves_suit(alloc, body, leaves, last)? {
         return Ok(false);
     }
-    twig_suits(alloc, body, edits, cells, &turning.twig, fresh)
+    twig_suits(alloc, body, edits, cells, &turning.twig, last, fresh)
 }
 
 // Whether a cell is a twig, in whose range the blocks that come begin, and a last leaf does.
@@ -151,38 +152,60 @@ fn twig_suits(
     edits: &Edits,
     cells: &[Arc<Cell>],
     twig: &Cell,
+    last: &Cell,
     fresh: &Fresh,
 ) -> Result<bool, Memory>
     requires sized { IsSizedBody body.now }
     requires level { twig.now.level ≡ 2 }
     ensures exact { IfOk result (λ ok. ok ≡ twig_suits body.now (edits_of edits.now) fresh.now
-        (map (λ c. arc_value c) cells.now) twig.now) }
+        (map (λ c. arc_value c) cells.now) twig.now last.now) }
     ensures pieces { IfOk result (λ ok. ArePiecesOf twig.now (twig_pieces twig.now)) }
 {
     let old = pieces_of_cell(alloc, twig)?;
-    let new = pieces_turned(alloc, body, edits, twig)?;
+    let new = pieces_turned(alloc, body, edits, twig, last)?;
     let count = cells.len() as u64;
     Ok(pieces_suit(body, fresh, count, old.as_slice(), new.as_slice()))
 }
 
-// The pieces that a twig is to have, where no pointer went, and a pointer more.
+// The pieces that a twig is to have, where no pointer went, and a pointer more, where something
+// stays of the last leaf.
 fn pieces_turned(
     alloc: Global,
     body: &SizedBody,
     edits: &Edits,
     twig: &Cell,
+    last: &Cell,
 ) -> Result<Vec<TwigPiece>, Memory>
     requires sized { IsSizedBody body.now }
     requires level { twig.now.level ≡ 2 }
     ensures { IfOk result (λ v. v.items
-        ≡ pieces_turned body.now (edits_of edits.now) twig.now) }
+        ≡ pieces_turned body.now (edits_of edits.now) twig.now last.now) }
 {
     let mut pieces = pieces_after(alloc, Some(body), edits, twig, &[])?;
+    if nothing_stays(alloc, body, last)? {
+        return Ok(pieces);
+    }
     pieces.push(TwigPiece {
         key: twig.lo(),
         part: TwigPart::Pointer(twig.id()),
     })?;
     Ok(pieces)
+}
+
+// Whether a cell is a leaf of which nothing stays behind the blocks that come.
+fn nothing_stays(alloc: Global, body: &SizedBody, last: &Cell) -> Result<bool, Memory>
+    requires sized { IsSizedBody body.now }
+    ensures { IfOk result (λ none. none ≡ ((last.now.level == 1)
+        && is_clear (coming body.now).1 (rank last.now.hi) last.now)) }
+{
+    if last.level() != 1 {
+        return Ok(false);
+    }
+    let behind = Interval {
+        from: body.coming().to,
+        to: last.hi(),
+    };
+    is_clear(alloc, last, behind)
 }
 
 // Whether none of a twig's pieces is a hole of the body, there is room for those that it is to
@@ -250,8 +273,20 @@ pub fn twig_turning(
     ensures { IfOk result (λ v. map count_of v.items
         ≡ twig_turning body.now (edits_of edits.now) (turn_of turning.now)) }
 {
-    let pieces = pieces_turned(alloc, body, edits, &turning.twig)?;
+    let last = last_leaf(turning);
+    let pieces = pieces_turned(alloc, body, edits, &turning.twig, last)?;
     let mut twigs = Vec::with_capacity(alloc, 1)?;
     twigs.push((turning.twig.id(), extra_twigs(pieces.as_slice())))?;
     Ok(twigs)
+}
+
+// The last of a turn's leaves; the twig, where there is none.
+fn last_leaf(turning: &Turning) -> &Cell
+    ensures { result.now ≡ last_of (turn_of turning.now) }
+{
+    let leaves = turning.leaves.as_slice();
+    if leaves.is_empty() {
+        return &turning.twig;
+    }
+    &leaves[leaves.len() - 1]
 }

@@ -36,11 +36,11 @@ returns-clause-may c =
     let changes : list_all (changes_before b (without_bytes e)) cells ≡ true = ap (λ (y : Edits). list_all (changes_before b y) cells) (sym c.in_ok-beside.ensures) ∙ (sym c.change_before.ensures.exact ∙ c.if-not-change_before.false) in
     let (first, turning) = c.fits_body.ensures.turns fits in
     both_ok c.turn_suits.result
-    (λ ok. ok ≡ (has_leaves b x.twig (last_of x) && (leaves_suit b x.leaf x.more && twig_suits b e f cells x.twig)))
+    (λ ok. ok ≡ (has_leaves b x.twig (last_of x) && (leaves_suit b x.leaf x.more && twig_suits b e f cells x.twig (last_of x))))
     (λ ok. ok ≡ true → ArePiecesOf x.twig (twig_pieces x.twig))
     (λ ok. ok ≡ true → MayTurnWhole b e f cells x)
     (λ ok exact pieces yes.
-    let (has, rest) = and_parts (has_leaves b x.twig (last_of x)) (leaves_suit b x.leaf x.more && twig_suits b e f cells x.twig) (sym exact ∙ yes) in
-    let (leaves, twig) = and_parts (leaves_suit b x.leaf x.more) (twig_suits b e f cells x.twig) rest in
+    let (has, rest) = and_parts (has_leaves b x.twig (last_of x)) (leaves_suit b x.leaf x.more && twig_suits b e f cells x.twig (last_of x)) (sym exact ∙ yes) in
+    let (leaves, twig) = and_parts (leaves_suit b x.leaf x.more) (twig_suits b e f cells x.twig (last_of x)) rest in
     suited b e f cells x first turning lie room changes has leaves twig (c.change_before.ensures.known c.if-not-change_before.false) (pieces yes))
     c.turn_suits.ensures.exact c.turn_suits.ensures.pieces

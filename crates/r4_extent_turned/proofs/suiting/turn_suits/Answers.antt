@@ -53,4 +53,4 @@ returns-clause-exact c =
     let last = last_is arc_value xs c.index-leaves-leaves.result leaf more c.index-leaves-leaves.is first in
     let has : has_leaves b twig (last_leaf leaf more) ≡ c.has_leaves.result = (λ i. has_leaves b (sym c.deref.ensures i) (sym (c.deref-2.ensures ∙ last) i)) ∙ sym c.has_leaves.ensures in
     let lie = sym (c.in_ok-leaves_suit.ensures leaf more first (c.deref-3.ensures ∙ last)) ∙ c.if-not-branch.false in
-    IfOk-weaker c.twig_suits.result _ _ (λ ok is. as_twig b e f cells twig cs leaf more same (has ∙ c.if-not-has_leaves.false) lie ok (is ∙ ap (twig_suits b e f cells) c.deref-4.ensures)) c.twig_suits.ensures.exact
+    IfOk-weaker c.twig_suits.result _ _ (λ ok is. as_twig b e f cells twig cs leaf more same (has ∙ c.if-not-has_leaves.false) lie ok (is ∙ (λ i. twig_suits b e f cells (c.deref-4.ensures i) ((c.deref-5.ensures ∙ last) i)))) c.twig_suits.ensures.exact
