@@ -20,8 +20,8 @@ use Rattle.r4_row_edit.specs.Climbing.{Climbed, HasNumbers, IsUpTo, StandUp, num
 use Rattle.r4_row_edit.specs.Twigs.{AreTooFew, AreTwigsWith, MayGet}
 
 -- In this part of a tree the twigs and the rows above them stand, and what goes below the twigs, which they name. Where
--- the twigs are too few for the pieces the rows go up to the root. The pieces name what the twigs name, with what comes below in the place of what goes. What comes may stand
--- and has numbers that serve, and the fresh numbers are free.
+-- the twigs are too few for the pieces the rows go up to the root. The pieces name what the twigs name, with what comes
+-- below in the place of what goes. What comes may stand and has numbers that serve, and the fresh numbers are free.
 pub record IsShiftIn (t : Store Value) (r : Root) (b : Row) (row : List CellSeen) (ps : List TwigPiece)
     (above : List (List CellSeen)) (fresh : Fresh) : Type 0 where
   pub part : IsPart t r
