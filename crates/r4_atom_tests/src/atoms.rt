@@ -295,3 +295,97 @@ fn a_thousand_are_fused_in_a_chain_and_in_a_star(rt: HostRuntime) -> Result<(), 
     assert!(rt; last == [AtomNo(1), AtomNo(1001)] && count == 1000);
     Ok(())
 }
+
+// Begins a transaction that captures two nodes of its own, and ends, seals, commits and cleans it.
+fn pass(rt: &impl Abort, alloc: Global, atoms: &mut Atoms, node: u32) -> Result<(), Fail> {
+    let atom = begin(rt, alloc, atoms, 1)?;
+    let node = u64::from(node);
+    assert!(rt; capture(rt, alloc, atoms, atom, node).is_ok());
+    assert!(rt; capture(rt, alloc, atoms, atom, node + 1).is_ok());
+    close(rt, atoms, TxnNo(atom.0));
+    assert!(rt; seal(rt, atoms, atom).is_ok());
+    commit(rt, atoms, atom);
+    clean(rt, atoms, atom);
+    Ok(())
+}
+
+// The same a thousand times, each time with one node of the time before.
+fn pass_all(rt: &impl Abort, alloc: Global, atoms: &mut Atoms) -> Result<(), Fail> {
+    for i in 0..1000u32 {
+        pass(rt, alloc, atoms, 100 + i)?;
+    }
+    Ok(())
+}
+
+#[test]
+fn clean_nodes_have_no_owner_whoever_captures(rt: HostRuntime) -> Result<(), Fail> {
+    let mut atoms = three(&rt, rt.alloc())?;
+    pass_all(&rt, rt.alloc(), &mut atoms)?;
+    assert!(rt; owners(&atoms) == [Some(AtomNo(1)), Some(AtomNo(2)), Some(AtomNo(1))]);
+    for i in 0..1001u64 {
+        assert!(rt; atoms.owner(NodeId(100 + i)) == None);
+    }
+    let kept = nodes(&rt, rt.alloc(), &atoms, AtomNo(1))?;
+    assert!(rt; kept.as_slice() == [10, 30].as_slice());
+    Ok(())
+}
+
+// Two thousand transactions of three scripts in turn: those of the first but the last one are ended and fused, and one of
+// the second ends.
+fn take_turns(rt: &impl Abort, alloc: Global, atoms: &mut Atoms) -> Result<(), Fail> {
+    for i in 0..2000u32 {
+        let _ = begin(rt, alloc, atoms, i % 3)?;
+    }
+    for i in 0..666u32 {
+        close(rt, atoms, TxnNo(3 * i + 1));
+        let _ = fuse(rt, atoms, AtomNo(1), AtomNo(3 * i + 1));
+    }
+    close(rt, atoms, TxnNo(1001));
+    Ok(())
+}
+
+// What of the three scripts, and of one without a transaction, is not committed.
+fn left(atoms: &Atoms) -> [Uncommitted; 4] {
+    let first = atoms.uncommitted_of(ScriptNo(0));
+    let second = atoms.uncommitted_of(ScriptNo(1));
+    let third = atoms.uncommitted_of(ScriptNo(2));
+    [first, second, third, atoms.uncommitted_of(ScriptNo(3))]
+}
+
+#[test]
+fn a_script_is_told_its_own_transactions(rt: HostRuntime) -> Result<(), Fail> {
+    let mut atoms = Atoms::new(rt.alloc());
+    take_turns(&rt, rt.alloc(), &mut atoms)?;
+    let third = Uncommitted::Open {
+        atom: AtomNo(3),
+        txn: TxnNo(3),
+    };
+    let first = Uncommitted::Closed(AtomNo(1));
+    let second = Uncommitted::Closed(AtomNo(1001));
+    assert!(rt; left(&atoms) == [first, second, third, Uncommitted::None]);
+    Ok(())
+}
+
+// Whether all of each of two scripts is committed.
+fn are_committed(atoms: &Atoms) -> [bool; 2] {
+    let first = atoms.all_committed(ScriptNo(7));
+    [first, atoms.all_committed(ScriptNo(8))]
+}
+
+// Seals and commits the first atom, and begins one more transaction of its script: whether all of each script is committed
+// before it, behind it and behind the last.
+fn commit_one(rt: &impl Abort, alloc: Global, atoms: &mut Atoms) -> Result<[[bool; 2]; 3], Fail> {
+    let before = are_committed(atoms);
+    commit(rt, atoms, AtomNo(1));
+    let behind = are_committed(atoms);
+    let _ = begin(rt, alloc, atoms, 8)?;
+    Ok([before, behind, are_committed(atoms)])
+}
+
+#[test]
+fn a_script_is_committed_with_its_last_transaction(rt: HostRuntime) -> Result<(), Fail> {
+    let mut atoms = sealed(&rt, rt.alloc())?;
+    let found = commit_one(&rt, rt.alloc(), &mut atoms)?;
+    assert!(rt; found == [[false, false], [false, true], [false, false]]);
+    Ok(())
+}

@@ -1,12 +1,13 @@
 -- What one sees of transactions and atoms, from the rows that keep them.
-use Rattle.std.proofs.Common.{◌≡◌, ℕ, zero, suc, ◌+◌, ◌-◌, ◌<◌, ◌≤◌, Bool, true, false, cond, List, [], ◌∷◌, ◌++◌, length, get_or, set, map, Option, Some, None, refl, sym, ap, ◌∙◌, inl, inr, arith}
+use Rattle.std.proofs.Common.{◌≡◌, ◌≢◌, ℕ, zero, suc, ◌+◌, ◌-◌, ◌<◌, ◌≤◌, Bool, true, false, cond, List, [], ◌∷◌, ◌++◌, length, get_or, set, map, Option, Some, None, refl, sym, ap, ◌∙◌, inl, inr, arith}
 use Rattle.std.proofs.lemmas.Bool.{cases_Bool, cases_eq, eq-eqb, ne_eqb}
-use Rattle.std.proofs.lemmas.List.{get_or-set_same, get_or-set_other, get_or_append_left, get_or-map}
+use Rattle.std.proofs.lemmas.List.{get_or-set_same, get_or-set_other, get_or_append_left, get_or-map, length-map}
 use Rattle.r4_atoms.specs.declared.things.AtomState.{AtomState}
 use Rattle.r4_atoms.specs.declared.things.Row.{Row}
 use Rattle.r4_atoms.specs.Names.{AreNames, renamed}
 use Rattle.r4_atoms.specs.Owned.{label_of}
-use Rattle.r4_atoms.specs.Atoms.{AreKept, atom_of, AtomsSeen, IsClosedAtom, is_committed, is_sealed, open_count, IsAtom, IsBegun, new_atom, no_txn, owner_by, owner_of, row_at, state_at, state_of, txn_of, txn_seen, txns_of, TxnSeen, without_owner}
+use Rattle.r4_atoms.specs.Scripts.{IsLatest}
+use Rattle.r4_atoms.specs.Atoms.{AreKept, atom_of, AtomsSeen, IsClosedAtom, is_committed, is_sealed, open_count, IsAtom, IsBegun, new_atom, no_row, no_txn, owner_by, owner_of, row_at, script_in, state_at, state_of, txn_of, txn_seen, txns_of, TxnSeen, without_owner}
 use Rattle.std.specs.Option.{option_map}
 
 pub length-txns : (rows : List Row) (names : List ℕ) → length rows ≡ length names → length (txns_of rows names) ≡ length names
@@ -44,6 +45,11 @@ txns-set_unseen (r ∷ rows) [] (suc i) row a b = refl
 txns-set_unseen (r ∷ rows) (n ∷ names) zero row a b = rw (a, b) refl
 txns-set_unseen (r ∷ rows) (n ∷ names) (suc i) row a b = ap (λ (ts : List TxnSeen). txn_seen r n ∷ ts) (txns-set_unseen rows names i row a b)
 
+-- a transaction of a script, or 0
+pub record IsOfScript (s : AtomsSeen) (script at : ℕ) : Type 0 where
+  pub within : at ≤ length s.txns
+  pub own : 0 < at → (txn_of s at).script ≡ script
+
 -- the owner by the label of a node
 abbrev pub raw_owner : List ℕ → List AtomState → Option ℕ → Option ℕ
 raw_owner names states None = None
@@ -59,6 +65,37 @@ module _ (names : List ℕ) (rows : List Row) (states : List AtomState) (entries
 
   pub txn_is : (t : ℕ) → IsBegun s t → txn_of s t ≡ txn_seen (row_at rows (t - 1)) (get_or names (t - 1) 0)
   txn_is t begun = ap (λ (a : AtomsSeen). get_or a.txns (t - 1) no_txn) (sym seen) ∙ txn_at rows names (t - 1) kept.same_rows (begun_within t begun)
+
+  pub script_is : (scripts : List ℕ) → scripts ≡ map script_in rows → (t : ℕ) → IsBegun s t → get_or scripts (t - 1) 0 ≡ (txn_of s t).script
+  script_is scripts same t begun =
+      let within = begun_within t begun in
+      ap (λ (xs : List ℕ). get_or xs (t - 1) 0) same ∙ get_or-map script_in rows (t - 1) no_row 0 (omega (arith, kept.same_rows)) ∙ sym (ap (λ (x : TxnSeen). x.script) (txn_is t begun))
+
+  pub length-scripts_seen : (scripts : List ℕ) → scripts ≡ map script_in rows → length scripts ≡ length s.txns
+  length-scripts_seen scripts same =
+      let long = length-map rows script_in in
+      let e = ap length same in
+      omega (arith, long, e, kept.same_rows, length-seen)
+
+  -- the last transaction of a script, and none behind it is of the script
+  pub at_last : (scripts : List ℕ) → scripts ≡ map script_in rows → (script at : ℕ) → IsLatest scripts script (length scripts) at → IsOfScript s script at × ((t : ℕ) → IsBegun s t → at < t → (txn_of s t).script ≢ script)
+  at_last scripts same script at is =
+      let long = length-scripts_seen scripts same in (
+        record { within = omega (arith, is.within); own = λ some. sym (script_is scripts same at (record { some = some; within = omega (arith, is.within) })) ∙ is.own some },
+        λ t begun above e. is.last (t - 1) (omega arith) (omega (arith, begun.some, begun.within)) (script_is scripts same t begun ∙ e),
+      )
+
+  -- the one before a transaction of it, and none between the two is of it
+  pub at_before : (scripts : List ℕ) → scripts ≡ map script_in rows → (script at next : ℕ) → 0 < at → IsOfScript s script at → IsLatest scripts (get_or scripts (at - 1) 0) (at - 1) next
+      → IsOfScript s script next × ((t : ℕ) → IsBegun s t → next < t → t < at → (txn_of s t).script ≢ script)
+  at_before scripts same script at next some here is =
+      let own : get_or scripts (at - 1) 0 ≡ script = script_is scripts same at (record { some = some; within = here.within }) ∙ here.own some in (
+        record {
+          within = omega (arith, is.within, here.within);
+          own = λ more. sym (script_is scripts same next (record { some = more; within = omega (arith, is.within, here.within) })) ∙ is.own more ∙ own;
+        },
+        λ t begun above below e. is.last (t - 1) (omega arith) (omega (arith, begun.some)) (script_is scripts same t begun ∙ e ∙ sym own),
+      )
 
   pub atom_is : (t : ℕ) → IsBegun s t → atom_of s t ≡ get_or names (t - 1) 0 + 1
   atom_is t begun = ap (λ (x : TxnSeen). x.atom) (txn_is t begun)

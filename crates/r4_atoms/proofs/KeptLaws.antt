@@ -1,14 +1,14 @@
 -- The rows of transactions and atoms stay well kept.
-use Rattle.std.proofs.Common.{◌≡◌, ◌≢◌, ◌⊎◌, ℕ, suc, ◌+◌, ◌-◌, ◌<◌, ◌≤◌, ◌^◌, Bool, true, false, cond, List, [], ◌∷◌, ◌++◌, length, get_or, set, map, Some, refl, sym, ap, ◌∙◌, inl, inr, arith, count_by}
+use Rattle.std.proofs.Common.{◌≡◌, ◌≢◌, ◌⊎◌, ℕ, zero, suc, ◌+◌, ◌-◌, ◌<◌, ◌≤◌, ◌^◌, Bool, true, false, cond, List, [], ◌∷◌, ◌++◌, length, get_or, set, map, Some, refl, sym, ap, ◌∙◌, inl, inr, arith, count_by}
 use Rattle.std.proofs.lemmas.Bool.{cases_Bool, cases_eq, eq-eqb, ne_eqb}
-use Rattle.std.proofs.lemmas.List.{get_or-set_same, get_or-set_other, length-set, length-append, get_or_append_left, get_or_push, get_or-map, length-map}
+use Rattle.std.proofs.lemmas.List.{get_or-set_same, get_or-set_other, length-set, length-append, get_or_append_left, get_or_push, get_or-map, length-map, map-append}
 use Rattle.std.proofs.lemmas.List.Sums.{sum_by-set, sum_by_push, sum_by-cons, get_or-le-sum_by}
 use Rattle.r4_base.specs.declared.things.ScriptNo.{ScriptNo}
 use Rattle.r4_atoms.specs.declared.things.AtomState.{AtomState}
 use Rattle.r4_atoms.specs.declared.things.Row.{Row}
 use Rattle.r4_atoms.specs.Names.{renamed}
 use Rattle.r4_atoms.specs.Owned.{label_of}
-use Rattle.r4_atoms.specs.Atoms.{AreKept, ended, is_open_in, joined, joined_rows, new_atom, new_row, no_account, no_row, no_txn, renamed_txn, row_at, state_at, txn_seen, txns_of, TxnSeen, with_account, with_open_txns, sum_of}
+use Rattle.r4_atoms.specs.Atoms.{AreKept, ended, is_open_in, joined, joined_rows, new_atom, new_row, no_account, no_row, no_txn, renamed_txn, row_at, script_in, state_at, txn_seen, txns_of, TxnSeen, with_account, with_open_txns, sum_of}
 use Rattle.r4_atoms.proofs.ForestLaws.{AreNames-more, AreNames-renamed}
 use Rattle.r4_atoms.proofs.AtomLaws.{length-txns, txn_at, txns-push, txns-set, txns-set_unseen}
 
@@ -531,3 +531,24 @@ kept_sealed names rows states entries low kept at within none st sealed committe
       | inl same ↦ ap (λ (k : ℕ). (state_at (set states at st) k).committed) same ∙ ap (λ (x : AtomState). x.committed) here ∙ committed ∙ ap (λ (k : ℕ). (state_at states k).committed) (sym same) ∙ kept.settled i below
       | inr off ↦ rw (there (get_or names i 0) off) (kept.settled i below)
     ])
+
+-- ---- the scripts of the rows
+
+scripts-set : (rows : List Row) (i : ℕ) (row : Row) → row.script ≡ (row_at rows i).script → map script_in (set rows i row) ≡ map script_in rows
+scripts-set [] i row e = refl
+scripts-set (r ∷ rows) zero row e = rw e refl
+scripts-set (r ∷ rows) (suc i) row e = ap (λ (ts : List ℕ). r.script.0 ∷ ts) (scripts-set rows i row e)
+
+pub scripts_ended : (rows : List Row) (at name : ℕ) → map script_in (ended rows at name) ≡ map script_in rows
+scripts_ended rows at name =
+    let first = set rows at (record { script = (row_at rows at).script; is_open = false; open_txns = (row_at rows at).open_txns }) in
+    scripts-set first name (record { script = (row_at first name).script; is_open = (row_at first name).is_open; open_txns = (row_at first name).open_txns - 1 }) refl ∙ scripts-set rows at _ refl
+
+pub scripts_joined : (rows : List Row) (to from : ℕ) → to ≢ from → map script_in (joined_rows rows to from) ≡ map script_in rows
+scripts_joined rows to from apart =
+    let first = set rows from (with_open_txns (row_at rows from) 0) in
+    let there : row_at first to ≡ row_at rows to = get_or-set_other rows from to _ no_row apart in
+    scripts-set first to (with_open_txns (row_at rows to) ((row_at rows to).open_txns + (row_at rows from).open_txns)) (ap (λ (r : Row). r.script) (sym there)) ∙ scripts-set rows from _ refl
+
+pub scripts_push : (rows : List Row) (script : ScriptNo) → map script_in (rows ++ new_row script ∷ []) ≡ map script_in rows ++ script.0 ∷ []
+scripts_push rows script = map-append script_in rows (new_row script ∷ [])

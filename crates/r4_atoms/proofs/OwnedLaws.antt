@@ -1,5 +1,5 @@
 -- Labels of nodes after a change of one list of entries or another.
-use Rattle.std.proofs.Common.{◌≡◌, ◌≢◌, ◌⊎◌, ℕ, ◌+◌, ◌<◌, ◌≤◌, true, false, eqb, not, cond, List, [], ◌∷◌, ◌++◌, length, filter, Option, Some, None, Result, IsOk, Ok, Err, IfOk, OnOk, is_some, refl, sym, ap, ◌∙◌, inl, inr, arith}
+use Rattle.std.proofs.Common.{◌≡◌, ◌≢◌, ◌⊎◌, ℕ, suc, ◌+◌, ◌<◌, ◌≤◌, true, false, eqb, not, cond, List, [], ◌∷◌, ◌++◌, length, get_or, drop, drop-cons, append-nil, append_assoc, filter, Option, Some, None, Result, IsOk, Ok, Err, IfOk, OnOk, is_some, refl, sym, ap, ◌∙◌, inl, inr, arith}
 use Rattle.std.proofs.lemmas.Bool.{cases_Bool, cases_eq, eqb-true, eq-eqb, ne_eqb}
 use Rattle.std.proofs.lemmas.List.{map-append}
 use Rattle.r4_atoms.specs.declared.owners.Label.{Label}
@@ -159,3 +159,33 @@ labels_put node label t t' back put n = elim (cases_Bool (eqb node n)) [
       let there : label_of n t' ≡ label_of n t = rw miss at (put n) in
       rw miss (label-append_same n t' t back back there refl)
 ]
+
+-- ---- what has moved is put into the table
+
+-- a node that has a label keeps it, whatever comes behind
+pub labels_shadowed : (node label : ℕ) (t : List (ℕ × ℕ)) → is_some (label_of node t) ≡ true → (n : ℕ) → label_of n (t ++ (node, label) ∷ []) ≡ label_of n t
+labels_shadowed node label t has n = by_label (label_of n t) refl
+  where
+    by_label : (o : Option ℕ) → label_of n t ≡ o → label_of n (t ++ (node, label) ∷ []) ≡ label_of n t
+    by_label (Some x) found = label-append_some n x t ((node, label) ∷ []) found ∙ sym found
+    by_label None none =
+        let miss : eqb n node ≡ false = ne_eqb n node (λ e. absurd (let h : is_some (label_of n t) ≡ true = ap (λ (m : ℕ). is_some (label_of m t)) e ∙ has in let bad : false ≡ true = rw none at h in cc)) in
+        label-append_none n t ((node, label) ∷ []) none ∙ rw miss (sym none)
+
+pub none_by_test : (o : Option ℕ) → is_some o ≡ false → o ≡ None
+none_by_test None e = refl
+none_by_test (Some x) e = absurd (cc)
+
+-- the next one of a row has gone into the table
+pub put_next : (t t' : List (ℕ × ℕ)) (row : List Label) (k : ℕ) (d : Label) → k < length row → ((n : ℕ) → label_of n t' ≡ label_of n (t ++ pair_of (get_or row k d) ∷ [])) → (n : ℕ)
+    → label_of n (t' ++ pairs_of (drop (k + 1) row)) ≡ label_of n (t ++ pairs_of (drop k row))
+put_next t t' row k d within put n =
+    let one : Label = get_or row k d in
+    let suc_is : suc k ≡ k + 1 = omega arith in
+    let cut : drop k row ≡ one ∷ drop (k + 1) row = drop-cons row k d within ∙ ap (λ (j : ℕ). one ∷ drop j row) suc_is in
+    let back : List (ℕ × ℕ) = pairs_of (drop (k + 1) row) in
+    label-append_same n t' (t ++ pair_of one ∷ []) back back (put n) refl ∙ ap (label_of n) (append_assoc t (pair_of one ∷ []) back) ∙ ap (λ (r : List Label). label_of n (t ++ pairs_of r)) (sym cut)
+
+-- all of a row has gone into the table
+pub put_last : (t t' : List (ℕ × ℕ)) (row : List Label) → ((n : ℕ) → label_of n t' ≡ label_of n (t ++ pairs_of row)) → (n : ℕ) → label_of n (t' ++ []) ≡ label_of n (t ++ pairs_of row)
+put_last t t' row put n = ap (label_of n) (append-nil t') ∙ put n

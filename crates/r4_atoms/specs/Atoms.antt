@@ -266,3 +266,11 @@ pub record AreKept (names : List ℕ) (rows : List Row) (states : List AtomState
 pub record HaveRoom (rows states spare room_rows room_states : ℕ) : Type 0 where
   pub rows_fit : rows + spare ≤ room_rows
   pub states_fit : states + spare ≤ room_states
+
+abbrev pub script_in : Row → ℕ
+script_in row = row.script.0
+
+-- the scripts are those of the rows, and there is room for no fewer more of them than for transactions
+pub record AreScripts (rows : List Row) (scripts : List ℕ) (spare spare_scripts : ℕ) : Type 0 where
+  pub same : scripts ≡ map script_in rows
+  pub room : spare ≤ spare_scripts

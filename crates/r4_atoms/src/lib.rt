@@ -4,6 +4,7 @@
 mod atoms;
 mod forest;
 mod owners;
+mod scripts;
 mod things;
 
 pub use atoms::Atoms;

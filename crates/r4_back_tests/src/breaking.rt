@@ -20,7 +20,7 @@ script\nwrite /b 12000 z\n";
 // of a home.
 static CALLS: [(u64, &str); 3] = [
     (
-        47,
+        46,
         "\
 begin t1 s1\n\
 begin t2 s2\n\
@@ -36,7 +36,7 @@ refused t0 s2 c2 reopen 32\n\
 finished\n",
     ),
     (
-        49,
+        48,
         "\
 begin t1 s1\n\
 begin t2 s2\n\
@@ -52,7 +52,7 @@ refused t0 s2 c2 reopen 34\n\
 finished\n",
     ),
     (
-        50,
+        49,
         "\
 begin t1 s1\n\
 begin t2 s2\n\

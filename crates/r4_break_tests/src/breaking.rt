@@ -35,7 +35,7 @@ write /c 8192 XY\n";
 // behind the header, which may be there by then.
 static CALLS: [(u64, &str, &str); 2] = [
     (
-        65,
+        63,
         "\
 begin t1 s1\n\
 done t1 s1 c1 ok\n\
@@ -58,7 +58,7 @@ ended t1\n\
 finished\n",
     ),
     (
-        67,
+        65,
         "\
 begin t1 s1\n\
 done t1 s1 c1 ok\n\

@@ -202,8 +202,8 @@ fn bitmaps_are_looked_at_before_the_tree(rt: HostRuntime) -> Result<(), Fail> {
     finds(&rt, rt.alloc(), &[(BITMAP, BITS, 0x7f)], &wanted, "", 0)
 }
 
-// How many blocks are read of the last row: header, footer, superblocks, bitmap, header again, root and leaf.
-const READS: u64 = 8;
+// How many blocks are read of the last row: header, footer, superblocks, bitmap, root and leaf.
+const READS: u64 = 7;
 
 // How many calls make that volume: eight writes and two syncs, and a read and a write for each change.
 const MADE: u64 = 10 + 2 * 13;

@@ -1,5 +1,6 @@
 pub mod CellPlaces
 pub mod HeldBlocks
+pub mod FoundBlocks
 pub mod NewHomes
 pub mod PlanFacts
 pub mod PlanMaking

@@ -14,6 +14,7 @@ use r4_base::{AtomNo, Block, BlockNo, Memory, SUPER_BLOCK, Super40, bitmap_block
 use r4_layout::write_super;
 use r4_place::Cell;
 use r4_space::{SpaceMap, count_all_free};
+use r4_wander::HomeBlock;
 use std::alloc::Global;
 use std::marker::Model;
 use std::sync::Arc;
@@ -22,15 +23,16 @@ use std::sync::Arc;
 #[derive(Drop)]
 pub(crate) struct Home {
     pub(crate) original: BlockNo,
-    pub(crate) block: Block,
+    pub(crate) block: HomeBlock,
 }
 
 impl Model for Home {
+    ghost use Rattle.r4_wander.specs.Entries.{block_of};
     ghost use Rattle.r4_wander.specs.Torn.{Write};
 
     ghost Value = { Write };
 
-    ghost view = { λ h. (h.original.0, h.block) };
+    ghost view = { λ h. (h.original.0, block_of h.block) };
 }
 
 /// All bitmaps of the volume as the atom's commit leaves them.
@@ -75,7 +77,7 @@ fn super_home(alloc: Global, super40: &Super40) -> Result<Home, Memory>
     write_super(block.bytes_mut(), super40);
     Ok(Home {
         original: SUPER_BLOCK,
-        block,
+        block: HomeBlock::Made(block),
     })
 }
 
@@ -88,27 +90,23 @@ fn add_bitmaps(homes: &mut Vec<Home>, bitmaps: Vec<Block>) -> Result<(), Memory>
     for block in bitmaps {
         homes.push(Home {
             original: bitmap_block(n),
-            block,
+            block: HomeBlock::Made(block),
         })?;
         n += 1;
     }
     Ok(())
 }
 
-/// Puts the cells that keep their blocks, each at its block, behind these.
-fn add_cells(
-    alloc: Global,
-    homes: &mut Vec<Home>,
-    cells: &[Arc<Cell>],
-    places: &Places,
-) -> Result<(), Memory>
+/// Puts the cells that keep their blocks, each at its block, behind these. Their blocks are shared, and not copied.
+fn add_cells(homes: &mut Vec<Home>, cells: &[Arc<Cell>], places: &Places) -> Result<(), Memory>
     ensures { OnOk result (homes.new.items ≡ homes.old.items ++ map (λ c. (c.id, c.block)) (overwritten (get nat_cmp places.now) (map (λ cell. arc_value cell) cells.now))) }
 {
     for cell in cells {
         if place_of(places, cell).is_none() {
+            let block = HomeBlock::OfCell(Arc::try_clone(cell)?);
             homes.push(Home {
                 original: BlockNo(cell.id().0),
-                block: cell.block().copy(alloc)?,
+                block,
             })?;
         }
     }
@@ -130,6 +128,6 @@ pub(crate) fn make_homes(
     let mut homes = Vec::new(alloc);
     homes.push(super_home(alloc, super40)?)?;
     add_bitmaps(&mut homes, bitmaps)?;
-    add_cells(alloc, &mut homes, cells, places)?;
+    add_cells(&mut homes, cells, places)?;
     Ok(homes)
 }

@@ -5,6 +5,7 @@ mod commit_plan;
 mod holding;
 mod homes;
 mod laws;
+mod log_blocks;
 mod places;
 mod planning;
 

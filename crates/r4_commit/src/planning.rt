@@ -9,13 +9,14 @@ ghost use Rattle.r4_space.specs.Accounts.{price_formula};
 ghost use Rattle.r4_space.specs.Space.{unused_count};
 ghost use Rattle.r4_place.specs.Chosen.{fresh_blocks};
 ghost use Rattle.r4_commit.specs.Places.{overwritten, overwritten_blocks, place_of};
-ghost use Rattle.r4_commit.specs.Planned.{IsPlanFor, IsPlanned, blocks_of, with_all_held};
+ghost use Rattle.r4_commit.specs.Planned.{IsPlanFor, IsPlanned, blocks_of};
 ghost use Rattle.r4_wander.specs.LogPlan.{CanBeWritten, IsBelow};
 ghost use Rattle.r4_wander.specs.Progress.{FitOn};
 
 use crate::commit_plan::CommitPlan;
-use crate::holding::{hold_log, lay_out};
+use crate::holding::hold_log;
 use crate::homes::{make_bitmaps, make_homes, renew_super};
+use crate::log_blocks::{find_log, lay_out};
 use crate::places::{place_cells, read_places};
 use r4_base::{AtomNo, BlockNo, Memory, Super40};
 use r4_place::{Cell, Placed};
@@ -52,11 +53,10 @@ pub fn plan(
     ensures err { OnErr result (space.new ≡ space.old) }
 {
     space.lawful();
-    let mut held = space.copy(alloc)?;
-    let made = make_plan(alloc, atom, cells, placed, next, prev, &mut held)?;
+    let made = make_plan(alloc, atom, cells, placed, next, prev, space)?;
     let head = made.plan.head;
     let writer = Writer::new(alloc, made.plan)?;
-    *space = held;
+    hold_log(alloc, atom, made.blocks.as_slice(), space)?;
     Ok(CommitPlan {
         writer,
         head,
@@ -64,15 +64,15 @@ pub fn plan(
     })
 }
 
-/// A plan, and the superblock that it writes.
+/// A plan, the blocks of its log, and the superblock that it writes.
 #[derive(Drop)]
 struct Made {
     plan: LogPlan,
+    blocks: Vec<BlockNo>,
     super40: Super40,
 }
 
-/// What the commit writes, where the blocks of its log are held; after an error some of them may be. The condition is
-/// that of `plan`.
+/// What the commit writes. The blocks of its log are found, and none is held yet. The condition is that of `plan`.
 fn make_plan(
     alloc: Global,
     atom: AtomNo,
@@ -80,16 +80,16 @@ fn make_plan(
     placed: &[Placed],
     next: &Super40,
     prev: BlockNo,
-    space: &mut SpaceMap,
+    space: &SpaceMap,
 ) -> Result<Made, Memory>
-    requires room { price_formula (length (overwritten_blocks placed.now (map (λ cell. arc_value cell) cells.now))) (bitmap_count space.old.block_count) ≤ unused_count space.old }
-    requires overwritten { All (λ b. (b ≢ 0) × (b < space.old.block_count)) (overwritten_blocks placed.now (map (λ cell. arc_value cell) cells.now)) }
-    requires placed { All (λ b. b < space.old.block_count) (fresh_blocks placed.now) }
-    requires blocks { next.now.block_count ≡ space.old.block_count }
-    ensures is_for { IfOk result (λ m. IsPlanFor space.old atom (map (λ cell. arc_value cell) cells.now) placed.now next.now prev m.plan) }
-    ensures below { IfOk result (λ m. IsBelow space.old.block_count m.plan) }
+    requires room { price_formula (length (overwritten_blocks placed.now (map (λ cell. arc_value cell) cells.now))) (bitmap_count space.now.block_count) ≤ unused_count space.now }
+    requires overwritten { All (λ b. (b ≢ 0) × (b < space.now.block_count)) (overwritten_blocks placed.now (map (λ cell. arc_value cell) cells.now)) }
+    requires placed { All (λ b. b < space.now.block_count) (fresh_blocks placed.now) }
+    requires blocks { next.now.block_count ≡ space.now.block_count }
+    ensures is_for { IfOk result (λ m. IsPlanFor space.now atom (map (λ cell. arc_value cell) cells.now) placed.now next.now prev m.plan) }
+    ensures below { IfOk result (λ m. IsBelow space.now.block_count m.plan) }
     ensures written { IfOk result (λ m. CanBeWritten m.plan) }
-    ensures held { IfOk result (λ m. space.new ≡ with_all_held space.old atom (blocks_of m.plan)) }
+    ensures blocks { IfOk result (λ m. map (λ b. b.0) m.blocks.items ≡ blocks_of m.plan) }
     ensures super40 { IfOk result (λ m. m.super40 ≡ record next.now { free_blocks = m.plan.free_blocks; flushes = m.plan.id }) }
 {
     space.lawful();
@@ -98,8 +98,9 @@ fn make_plan(
     let bitmaps = make_bitmaps(alloc, atom, next.block_count, space)?;
     let last = renew_super(next, &bitmaps);
     let homes = make_homes(alloc, &last, bitmaps, cells, &places)?;
-    let log = hold_log(alloc, atom, prev, homes.len(), space)?;
-    let wandered = lay_out(alloc, homes, &log.copies)?;
+    let copies = homes.len();
+    let log = find_log(alloc, prev, copies, space)?;
+    let wandered = lay_out(alloc, homes, &log.all[..copies])?;
     let plan = LogPlan {
         id: last.flushes,
         prev,
@@ -113,6 +114,7 @@ fn make_plan(
     };
     Ok(Made {
         plan,
+        blocks: log.all,
         super40: last,
     })
 }

@@ -12,18 +12,19 @@ use r4_commit_testing::{filled, number, read, replays};
 use r4_outside::{Device, MemoryDevice, MemorySink};
 use r4_testing::{REPLAY, call};
 use r4_wander::{
-    Blocks, LogPlan, PlacedCell, PlacedCells, Stage, WanderedCopies, WanderedCopy, Writer,
+    Blocks, HomeBlock, LogPlan, PlacedCell, PlacedCells, Stage, WanderedCopies, WanderedCopy,
+    Writer,
 };
 use std::alloc::Global;
 use std::process::Abort;
 use std::sync::Arc;
 use std::test::Fail;
 
-// A data block of nines, to be placed.
-fn cell(alloc: Global) -> Result<Arc<Cell>, Fail> {
+// A data block of one byte.
+fn cell(alloc: Global, byte: u8) -> Result<Arc<Cell>, Fail> {
     let lo = Key::body(41, 0, Oid(42), 0);
     let hi = Key::body(41, 0, Oid(42), 4096);
-    let Ok(cell) = read_cell(alloc, NodeId(40), 0, lo, hi, 64, filled(alloc, 9)?) else {
+    let Ok(cell) = read_cell(alloc, NodeId(40), 0, lo, hi, 64, filled(alloc, byte)?) else {
         return Err(Fail::from("a data block is refused"));
     };
     Ok(cell)
@@ -36,18 +37,18 @@ fn records(alloc: Global) -> Result<Blocks, Fail>
     Ok(Blocks::from_vec(Vec::from_array(alloc, [BlockNo(23)])?))
 }
 
-// The cell, placed at block 40.
+// A cell of nines, placed at block 40.
 fn placed(alloc: Global) -> Result<PlacedCells, Fail>
     ensures { IfOk result (λ cells. All (λ c. c.at < 64) cells) }
 {
     let one = PlacedCell {
         at: BlockNo(40),
-        cell: cell(alloc)?,
+        cell: cell(alloc, 9)?,
     };
     Ok(PlacedCells::from_vec(Vec::from_array(alloc, [one])?))
 }
 
-// Copies of blocks 30 and 17, in this order.
+// Copies of blocks 30 and 17, in this order: a block that was made, and the block of a cell.
 fn copies(alloc: Global) -> Result<WanderedCopies, Fail>
     ensures two { IfOk result (λ all. length all ≡ 2) }
     ensures below { IfOk result (λ all. All (λ w. (w.original < 64) × (w.copy < 64)) all) }
@@ -56,12 +57,12 @@ fn copies(alloc: Global) -> Result<WanderedCopies, Fail>
     let one = WanderedCopy {
         original: BlockNo(30),
         copy: BlockNo(25),
-        block: filled(alloc, 8)?,
+        block: HomeBlock::Made(filled(alloc, 8)?),
     };
     let two = WanderedCopy {
         original: BlockNo(17),
         copy: BlockNo(24),
-        block: filled(alloc, 7)?,
+        block: HomeBlock::OfCell(cell(alloc, 7)?),
     };
     Ok(WanderedCopies::from_vec(Vec::from_array(alloc, [one, two])?))
 }
@@ -327,7 +328,7 @@ fn many_copies(alloc: Global, count: u32) -> Result<WanderedCopies, Fail>
         all.push(WanderedCopy {
             original: BlockNo(300 + i),
             copy: BlockNo(600 + i),
-            block: filled(alloc, byte_of(i))?,
+            block: HomeBlock::Made(filled(alloc, byte_of(i))?),
         })?;
     }
     Ok(WanderedCopies::from_vec(all))

@@ -1,7 +1,8 @@
 -- A turned twig needs no more room than is told of it without the leaves that ask to go, and a pointer for what stays of
--- the last leaf, where none is left there.
+-- the last leaf, where none is left there; nor more than is told of it without any pointer to leaves that begin there, and
+-- that pointer.
 use Rattle.std.proofs.Common.{◌≡◌, ◌⊎◌, inl, inr, ℕ, suc, ◌+◌, ◌*◌, ◌^◌, ◌<◌, ◌≤◌, Bool, true, false, cond, List, [], ◌∷◌, ◌++◌, length, take, drop, refl, sym, ap, subst, ◌∙◌, arith, eqb-true}
-use Rattle.std.specs.Prelude.{Contains, Option, None, Some, ◌==◌, not, nat_lt}
+use Rattle.std.specs.Prelude.{Contains, Option, None, Some, ◌==◌, ◌&&◌, not, nat_lt}
 use Rattle.std.specs.List.{filter}
 use Rattle.std.proofs.Math.Seq.{drop-append_seam, take-append_seam}
 use Rattle.std.proofs.lemmas.List.{append_assoc, append-nil}
@@ -25,25 +26,23 @@ use Rattle.r4_extent_build.proofs.r4_extent_edit.TurnPieces.{last_low}
 use Rattle.r4_extent_build.specs.r4_graft.Splices.{place}
 use Rattle.r4_extent_build.proofs.r4_graft.Joined.{bytes_join, bytes_most}
 use Rattle.r4_extent_build.proofs.r4_graft.Placed.{follow_above, has_end, place_none, place_some}
+use Rattle.r4_build.specs.r4_leaf.Units.{is_between}
 use Rattle.r4_build.proofs.r4_patch.Members.{cases, here, later, none}
 use Rattle.r4_build.specs.r4_path.TwigPieces.{twig_pieces}
 use Rattle.r4_build.proofs.r4_path.Rising.{follow_within}
 use Rattle.r4_build.specs.r4_reach.Needs.{Ask, pieces_after, without_gone}
 use Rattle.r4_build.specs.r4_reach.Touched.{Body, first_byte}
-use Rattle.r4_extent_turn.specs.Asked.{OnlyTurnedGo, goes_by, pointers_left}
+use Rattle.r4_extent_turn.specs.Asked.{OnlyTurnedGo, goes_by, is_pointer, pointers_left, points_there, without_turned}
 use Rattle.r4_extent_turn.specs.Turning.{AreKept, IsTurnFor, IsTurningBody, Kept, Turn, in_turned, last_of, leaves_of, left_pointer, told_extent, told_pieces}
-use Rattle.r4_extent_turn.proofs.Bodies.{told_follow}
+use Rattle.r4_extent_turn.proofs.Bodies.{coming_is, told_follow}
 use Rattle.r4_extent_turn.proofs.Comes.{before_follow, behind_follow, over, p, right_low}
 use Rattle.r4_extent_turn.proofs.GivenLeaves.{in_twig}
 use Rattle.r4_extent_turn.proofs.MadeTurn.{sound_of}
 use Rattle.r4_extent_turn.proofs.Room.{SameRoom, open_by, open_is, same_all, same_join}
 use Rattle.r4_extent_turn.proofs.ToldRuns.{after_of, kept_member}
+use Rattle.r4_extent_turn.proofs.NoPointers.{filter_all, told_stays}
 
 -- ---- lists
-
-filter_all : {X : Type 0} (f : X → Bool) (xs : List X) → ((x : X) → Contains xs x → f x ≡ true) → filter f xs ≡ xs
-filter_all f [] all = refl
-filter_all {X} f (x ∷ xs) all = ap (λ (t : Bool). cond t (x ∷ filter f xs) (filter f xs)) (all x (here x xs)) ∙ ap (λ (ys : List X). x ∷ ys) (filter_all f xs (λ y at. all y (later x y xs at)))
 
 filter_none : {X : Type 0} (f : X → Bool) (xs : List X) → ((x : X) → Contains xs x → f x ≡ false) → filter f xs ≡ []
 filter_none f [] all = refl
@@ -306,24 +305,65 @@ module _ (b : Body) (x : Turn) (c : IsTurnFor b x) where
           regroup : (us vs ws ys zs : List TwigPiece) → us ++ ((vs ++ (ws ++ ys)) ++ zs) ≡ (us ++ vs) ++ (ws ++ (ys ++ zs))
           regroup us vs ws ys zs = simp append_assoc
 
-      pub asked_room : (more : ℕ) → length (given_cells s.right) ≤ pointers_left b x hs + more → twig_bytes (told_pieces b e x s) ≤ twig_bytes (pieces_after (Some b) e (node_of x.twig) hs) + 46 * more
-      asked_room more few =
+      -- whatever pointers are left there
+      room_by : (lefts : List TwigPiece) → ((q : TwigPiece) → Contains lefts q → IsPointer q) → (more : ℕ) → length (given_cells s.right) ≤ length lefts + more
+          → twig_bytes (told_pieces b e x s) ≤ twig_bytes (sp.front ++ (ts ++ (lefts ++ (p b x c).behind))) + 46 * more
+      room_by lefts are more few =
           let front = sp.front in
           let ours = (p b x c).before ++ left_pointer s.left in
           let rs = pointer_to s.right ++ (p b x c).behind in
-          let ls = left ++ (p b x c).behind in
+          let ls = lefts ++ (p b x c).behind in
           let d1 = last_end None front in
           let d2 = last_end d1 ts in
           let room = sp.room None in
           let a1 = ap twig_bytes told_are ∙ bytes_join None ours (ts ++ rs) in
           let a2 : bytes_behind (last_end None ours) (ts ++ rs) ≡ bytes_behind d1 ts + bytes_behind d2 rs = ap (λ (o : Option ℕ). bytes_behind o (ts ++ rs)) room.1 ∙ bytes_join d1 ts rs in
-          let z1 = ap twig_bytes after_are ∙ bytes_join None front (ts ++ ls) in
+          let z1 = bytes_join None front (ts ++ ls) in
           let z2 = bytes_join d1 ts ls in
           let begins : fb ≤ end_after b = omega arith in
           let low1 : IsLow d1 (end_after b) = low_end (end_after b) front None (λ q at. let l = (sp.low q at).1 in omega (arith, l, begins)) tt in
           let low2 : IsLow d2 (end_after b) = low_end (end_after b) ts d1 (λ q at. (piece_within fb (end_after b) ts q (told_follow b first g e) at).1) low1 in
-          let n = many in
-          let r = rights_bytes (end_after b) d2 s.right left (p b x c).behind more low2 (λ q at. sp.pointers q (kept_member keep sp.middle q at))
-          (λ l is q at. let h = behind_high q at in let w = right_low b x c s k l is in omega (arith, h, w)) (omega (arith, few, n)) in
+          let r = rights_bytes (end_after b) d2 s.right lefts (p b x c).behind more low2 are
+          (λ l is q at. let h = behind_high q at in let w = right_low b x c s k l is in omega (arith, h, w)) few in
           let same = room.0 in
           omega (arith, a1, a2, z1, z2, r, same)
+
+      pub asked_room : (more : ℕ) → length (given_cells s.right) ≤ pointers_left b x hs + more → twig_bytes (told_pieces b e x s) ≤ twig_bytes (pieces_after (Some b) e (node_of x.twig) hs) + 46 * more
+      asked_room more few =
+          let n = many in
+          let r = room_by left (λ q at. sp.pointers q (kept_member keep sp.middle q at)) more (omega (arith, few, n)) in
+          let same = ap twig_bytes after_are in
+          omega (arith, r, same)
+
+      -- ---- without those that point to leaves which begin there
+
+      abbrev stay : TwigPiece → Bool
+      stay q = not (points_there b q)
+
+      pointed : (q : TwigPiece) → points_there b q ≡ (in_turned b (rank q.key) && is_pointer q.part)
+      pointed q = ap (λ (r : ℕ × ℕ). is_between r.0 r.1 (rank q.key) && is_pointer q.part) (coming_is b first g)
+
+      stays_off : (q : TwigPiece) → in_turned b (rank q.key) ≡ false → stay q ≡ true
+      stays_off q off = ap not (pointed q ∙ ap (λ (v : Bool). v && is_pointer q.part) off)
+
+      goes_on : (q : TwigPiece) → Contains left q → stay q ≡ false
+      goes_on q at =
+          let m = kept_member keep sp.middle q at in
+          let w = sp.within q m in
+          let on = is_on fb (end_after b) (rank q.key) w.0 w.1 in
+          let (i, is) = sp.pointers q m in
+          ap not (pointed q ∙ (λ j. on j && is_pointer (is j)))
+
+      turned_are : without_turned b (pieces_after (Some b) e (node_of x.twig) hs) ≡ sp.front ++ (ts ++ (p b x c).behind)
+      turned_are =
+          ap (filter stay) after_are
+          ∙ (filter-append stay sp.front (ts ++ (left ++ (p b x c).behind))
+          ∙ ((λ i. filter_all stay sp.front (λ q at. stays_off q (front_off q at)) i ++ filter-append stay ts (left ++ (p b x c).behind) i)
+          ∙ ((λ i. sp.front ++ (filter_all stay ts (λ q at. told_stays b e q at) i ++ filter-append stay left (p b x c).behind i))
+          ∙ (λ i. sp.front ++ (ts ++ (filter_none stay left goes_on i ++ filter_all stay (p b x c).behind (λ q at. stays_off q (behind_off q at)) i))))))
+
+      pub turned_room : twig_bytes (told_pieces b e x s) ≤ twig_bytes (without_turned b (pieces_after (Some b) e (node_of x.twig) hs)) + 46 * length (given_cells s.right)
+      turned_room =
+          let r = room_by [] (λ q at. absurd (none q at)) (length (given_cells s.right)) (omega arith) in
+          let same = ap twig_bytes turned_are in
+          omega (arith, r, same)

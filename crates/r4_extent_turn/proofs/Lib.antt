@@ -15,4 +15,5 @@ pub mod MadeTurn
 pub mod OneTurn
 pub mod FewerLeft
 pub mod LeftSet
+pub mod NoPointers
 pub mod AskedRoom

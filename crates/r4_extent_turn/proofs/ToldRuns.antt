@@ -113,7 +113,7 @@ module _ (b : Body) (first : Key) (g : IsTurningBody b first) (e : Edits) (twig 
       ∙ (ap (λ (t : Bool). cond t (spliced (place (first_byte b) (left hs)) (place (first_byte b) (left hs)) (runs (gets_bytes b e) (first_byte b) ((end_after b - first_byte b) / 4096)) (left hs)) (left hs)) within
       ∙ ap (λ (n : ℕ). spliced (place (first_byte b) (left hs)) (place (first_byte b) (left hs)) (runs (gets_bytes b e) (first_byte b) n) (left hs)) many)))
 
-  after_is : pieces_after (Some b) e (node_of twig) [] ≡ take (place (first_byte b) ps) ps ++ (told_extent b e ++ drop (place (first_byte b) ps) ps)
+  pub after_is : pieces_after (Some b) e (node_of twig) [] ≡ take (place (first_byte b) ps) ps ++ (told_extent b e ++ drop (place (first_byte b) ps) ps)
   after_is = after_of [] ∙ (λ i. take (place (first_byte b) (none_gone ps i)) (none_gone ps i) ++ (told_extent b e ++ drop (place (first_byte b) (none_gone ps i)) (none_gone ps i)))
 
   pub told_are : (all : List TwigPiece) → all ≡ pieces_after (Some b) e (node_of twig) []

@@ -1,7 +1,7 @@
 //! Laws of the twig of a body that comes out of tails to extents. Each is the contract of a
 //! function that does nothing.
 
-ghost use Rattle.std.specs.Prelude.{ℕ, ◌+◌, ◌*◌, ◌^◌, ◌≤◌, List, Some, length};
+ghost use Rattle.std.specs.Prelude.{ℕ, ◌+◌, ◌*◌, ◌^◌, ◌≤◌, List, [], Some, length};
 ghost use Rattle.r4_base.specs.Tree.{Name, Root as TreeRoot, Store};
 ghost use Rattle.r4_base.specs.Value.{Value};
 ghost use Rattle.r4_base.specs.declared.key.Key.{Key};
@@ -24,7 +24,7 @@ ghost use Rattle.r4_build.specs.r4_work.declared.working.WorkingSet.{WorkingSet}
 ghost use Rattle.r4_extent_turn.specs.Turning.{AreKept, IsTurnFor, IsTurningBody, Kept, Turn};
 ghost use Rattle.r4_extent_turn.specs.Turning.{in_turned};
 ghost use Rattle.r4_extent_turn.specs.Turning.{told_pieces, turned_values, turning_turn};
-ghost use Rattle.r4_extent_turn.specs.Asked.{OnlyTurnedGo, pointers_left};
+ghost use Rattle.r4_extent_turn.specs.Asked.{OnlyTurnedGo, pointers_left, without_turned};
 ghost use Rattle.r4_extent_turn.specs.TurnedOut.{LeavesLeaves};
 ghost use Rattle.r4_extent_turn.specs.TurningIn.{CanTurnOut, IsTurnIn, MayTurnOut, StandsTurn};
 ghost use Rattle.r4_extent_turn.specs.TurningIn.{turns_to};
@@ -111,4 +111,15 @@ pub fn turned_twigs_need_what_is_asked()
         → length (given_cells s.right) ≤ pointers_left b x hs + more
         → twig_bytes (told_pieces b e x s)
         ≤ twig_bytes (pieces_after (Some b) e (node_of x.twig) hs) + 46 * more }
+{}
+
+/// Nor does it need more room than `pieces_after` tells without the pointers to leaves that begin
+/// among the blocks that come, since these go, and 46 bytes for the pointer to what stays of the
+/// last leaf, if something does.
+pub fn turned_twigs_need_no_pointers_there()
+    ensures { (b : Body) (first : Key) (e : Edits) (x : Turn) (s : Kept)
+        → IsTurningBody b first → IsTurnFor b x → AreKept b x s
+        → twig_bytes (told_pieces b e x s)
+        ≤ twig_bytes (without_turned b (pieces_after (Some b) e (node_of x.twig) []))
+        + 46 * length (given_cells s.right) }
 {}

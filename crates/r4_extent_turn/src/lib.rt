@@ -9,9 +9,9 @@ mod tails;
 mod turning;
 
 pub use laws::{
-    measured_turns_may_be_made, turned_bodies_leave_leaves, turned_twigs_need_what_is_asked,
-    turned_twigs_set_bytes, turning_turns_set_bytes, turning_twigs_are_ready,
-    turning_twigs_have_their_turn, turns_of_parts,
+    measured_turns_may_be_made, turned_bodies_leave_leaves, turned_twigs_need_no_pointers_there,
+    turned_twigs_need_what_is_asked, turned_twigs_set_bytes, turning_turns_set_bytes,
+    turning_twigs_are_ready, turning_twigs_have_their_turn, turns_of_parts,
 };
 pub use r4_build::{Change, add, make_each};
 pub use r4_extent_build::WorkingSet;

@@ -39,8 +39,10 @@ use Rattle.r4_extent_shrink.proofs.r4_extent_growth.r4_measure.r4_branch.Followi
 use Rattle.r4_extent_shrink.proofs.r4_extent_growth.r4_measure.r4_patch.Members.{cases, have_names, here, later}
 use Rattle.r4_extent_shrink.proofs.r4_extent_growth.r4_measure.r4_patch.PartCells.{apart, parent, root_high}
 use Rattle.r4_extent_shrink.proofs.r4_extent_growth.r4_measure.r4_path.Rising.{follow_within, hi_is, in_node, level_is, lo_is}
+use Rattle.r4_extent_shrink.specs.r4_extent_growth.r4_measure.r4_branch.declared.piece.TwigPiece.{TwigPiece}
+use Rattle.r4_extent_turn.specs.Asked.{without_turned}
 use Rattle.r4_extent_turn.specs.Turning.{AreKept, IsTurnFor, Kept, Turn, last_of, leaves_of, told_pieces}
-use Rattle.r4_extent_turn.proofs.AskedRoom.{asked_room}
+use Rattle.r4_extent_turn.proofs.AskedRoom.{turned_room}
 use Rattle.r4_extent_turn.proofs.Keeps.{ends_before}
 use Rattle.r4_extent_turned.specs.Finding.{is_leaf_of, is_twig_of, turn_among, turn_with}
 use Rattle.r4_extent_turned.specs.MayTurn.{MayTurnWhole, coming_turned, twig_turning}
@@ -177,19 +179,21 @@ module _ (t : Store Value) (r : Root) (f : Fresh) (cells : List CellSeen) (in_pa
     needs : (s : Kept) → AreKept b x s → twig_bytes (told_pieces b e x s) ≤ twig_bytes (pieces_turned b e x.twig (last_of x))
     needs s kept = by stays_none refl
       where
-        asked : (more : ℕ) → length (given_cells s.right) ≤ more → twig_bytes (told_pieces b e x s) ≤ twig_bytes (pieces_after (Some b) e (node_of x.twig) []) + 46 * more
-        asked more few = asked_room b x turn_for [] (λ p at gone. absurd cc) s kept may.first may.turning e more (omega (arith, few))
+        rest : List TwigPiece
+        rest = without_turned b (pieces_after (Some b) e (node_of x.twig) [])
 
         by : (t : Bool) → stays_none ≡ t → twig_bytes (told_pieces b e x s)
-            ≤ twig_bytes (pieces_after (Some b) e (node_of x.twig) [] ++ (if t then [] else (record { key = x.twig.lo; part = Pointer (record { 0 = x.twig.id }) } ∷ [])))
+            ≤ twig_bytes (rest ++ (if t then [] else (record { key = x.twig.lo; part = Pointer (record { 0 = x.twig.id }) } ∷ [])))
         by true is =
-            let few = asked 0 (none_right is kept.to kept.to_is kept.right_id s.right kept.right) in
-            let same = ap twig_bytes (append-nil (pieces_after (Some b) e (node_of x.twig) [])) in
-            omega (arith, few, same)
+            let room = turned_room b x turn_for [] (λ p at gone. absurd cc) s kept may.first may.turning e in
+            let few = none_right is kept.to kept.to_is kept.right_id s.right kept.right in
+            let same = ap twig_bytes (append-nil rest) in
+            omega (arith, room, few, same)
         by false is =
-            let few = asked 1 (one_right s.right) in
-            let more = bytes_more (pieces_after (Some b) e (node_of x.twig) []) (record { key = x.twig.lo; part = Pointer (record { 0 = x.twig.id }) }) in
-            omega (arith, few, more)
+            let room = turned_room b x turn_for [] (λ p at gone. absurd cc) s kept may.first may.turning e in
+            let few = one_right s.right in
+            let more = bytes_more rest (record { key = x.twig.lo; part = Pointer (record { 0 = x.twig.id }) }) in
+            omega (arith, room, few, more)
 
     fewer : (n m : ℕ) → n ≤ m → (n - 4068 + 1023) / 1024 ≤ (m - 4068 + 1023) / 1024
     fewer n m h = omega (arith, h)

@@ -32,7 +32,8 @@ use Rattle.r4_extent_shrink.proofs.r4_extent_growth.r4_extent_change.r4_build.Me
 use Rattle.r4_extent_shrink.proofs.r4_extent_growth.r4_extent_loss.r4_extent_edit.ExtentEffect.{is_on}
 use Rattle.r4_extent_shrink.proofs.r4_extent_growth.r4_measure.r4_work.UnitMembers.{between}
 use Rattle.r4_extent_turn.specs.Turning.{IsTurningBody, Turn, blocks_turned, in_turned, last_of, leaves_of, told_extent}
-use Rattle.r4_extent_turn.proofs.ToldRuns.{told_are}
+use Rattle.r4_extent_turn.specs.Asked.{without_turned}
+use Rattle.r4_extent_turn.proofs.NoPointers.{told_among}
 use Rattle.r4_extent_turned.specs.MayTurn.{MayTurnWhole}
 use Rattle.r4_extent_turned.specs.Suiting.{changes_before, has_leaves, has_numbers, is_clear, leaves_suit, lie_around, lie_beside, pieces_turned, right_pointer, twig_suits}
 
@@ -159,9 +160,8 @@ module _ (b : Body) (e : Edits) (f : Fresh) (cells : List CellSeen) (x : Turn) (
   -- each block that comes is one of the pieces
   few_blocks : blocks_turned b e ≤ length (pieces_turned b e x.twig (last_of x))
   few_blocks =
-      let after : List TwigPiece = pieces_after (Some b) e (node_of x.twig) [] in
-      let long = (told_are b first turning e x.twig pieces in_twig.1 no_holes after refl).0 in
-      let more = length-append after (right_pointer b x.twig (last_of x)) in
+      let long = told_among b first turning e x.twig pieces in_twig.1 no_holes in
+      let more = length-append (without_turned b (pieces_after (Some b) e (node_of x.twig) [])) (right_pointer b x.twig (last_of x)) in
       let few = few_coming (told_extent b e) in
       omega (arith, long, more, few)
 

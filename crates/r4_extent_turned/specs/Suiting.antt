@@ -18,6 +18,7 @@ use Rattle.r4_extent_shrink.specs.r4_extent_growth.r4_measure.r4_leaf.Units.{is_
 use Rattle.r4_extent_shrink.specs.r4_extent_growth.r4_measure.r4_path.TwigPieces.{twig_pieces}
 use Rattle.r4_extent_shrink.specs.r4_extent_growth.r4_measure.r4_reach.Needs.{is_met, pieces_after}
 use Rattle.r4_extent_shrink.specs.r4_extent_growth.r4_measure.r4_reach.Touched.{Body, coming, first_byte}
+use Rattle.r4_extent_turn.specs.Asked.{without_turned}
 
 -- ---- leaves
 
@@ -67,10 +68,11 @@ right_pointer b twig last =
     if (last.level == 1) && is_clear (coming b).1 (rank last.hi) last then []
     else (record { key = twig.lo; part = Pointer (record { 0 = twig.id }) } ∷ [])
 
--- the pieces that the twig is to have, where no pointer went, and that pointer
+-- the pieces that the twig is to have, without the pointers to leaves that begin among the blocks
+-- that come, and with that pointer
 abbrev pub pieces_turned : Body → Edits → (twig last : CellSeen) → List TwigPiece
 pieces_turned b e twig last =
-    pieces_after (Some b) e (node_of twig) [] ++ right_pointer b twig last
+    without_turned b (pieces_after (Some b) e (node_of twig) []) ++ right_pointer b twig last
 
 -- there are so many numbers: one for each of these pieces, 194 for the twig and for what stays of
 -- the leaves, and 64 for each cell

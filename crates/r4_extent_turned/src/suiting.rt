@@ -17,6 +17,8 @@ ghost use Rattle.r4_extent_shrink.specs.r4_extent_growth.r4_measure.r4_cell.Seen
 ghost use Rattle.r4_extent_shrink.specs.r4_extent_growth.r4_measure.r4_path.Sharing.{IsSound};
 ghost use Rattle.r4_extent_shrink.specs.r4_extent_growth.r4_measure.r4_path.TwigPieces.{ArePiecesOf, twig_pieces};
 ghost use Rattle.r4_extent_shrink.specs.r4_extent_growth.r4_measure.r4_reach.Touched.{coming, turns_out};
+ghost use Rattle.r4_extent_shrink.specs.r4_extent_growth.r4_measure.r4_leaf.Units.{is_between};
+ghost use Rattle.r4_extent_turn.specs.Asked.{is_pointer, without_turned};
 ghost use Rattle.r4_extent_turn.specs.Turning.{IsTurningBody, last_of};
 ghost use Rattle.r4_extent_turn.specs.TurningIn.{turn_of};
 ghost use Rattle.r4_extent_turned.specs.MayTurn.{MayTurnWhole, may_turn, twig_turning};
@@ -28,7 +30,7 @@ use crate::leaves::{change_before, is_clear, leaves_suit};
 use r4_base::{Memory, NodeId};
 use r4_content::{Edits, Interval};
 use r4_extent_shrink::{
-    Cell, Fresh, SizedBody, TwigPart, TwigPiece, extra_twigs, have_room, lie_in_leaves,
+    Cell, Fresh, KeyRange, SizedBody, TwigPart, TwigPiece, extra_twigs, have_room, lie_in_leaves,
     pieces_after, pieces_of_cell, twig_bytes, without_bytes,
 };
 use r4_extent_turn::Turning;
@@ -167,8 +169,8 @@ fn twig_suits(
     Ok(pieces_suit(body, fresh, count, old.as_slice(), new.as_slice()))
 }
 
-// The pieces that a twig is to have, where no pointer went, and a pointer more, where something
-// stays of the last leaf.
+// The pieces that a twig is to have, without the pointers to leaves that begin among the blocks
+// that come, and with a pointer more, where something stays of the last leaf.
 fn pieces_turned(
     alloc: Global,
     body: &SizedBody,
@@ -182,6 +184,7 @@ fn pieces_turned(
         ≡ pieces_turned body.now (edits_of edits.now) twig.now last.now) }
 {
     let mut pieces = pieces_after(alloc, Some(body), edits, twig, &[])?;
+    leave_out_turned(&mut pieces, body);
     if nothing_stays(alloc, body, last)? {
         return Ok(pieces);
     }
@@ -190,6 +193,26 @@ fn pieces_turned(
         part: TwigPart::Pointer(twig.id()),
     })?;
     Ok(pieces)
+}
+
+// Leaves out the pointers to leaves that begin among the blocks that come.
+fn leave_out_turned(pieces: &mut Vec<TwigPiece>, body: &SizedBody)
+    requires sized { IsSizedBody body.now }
+    ensures { pieces.new.items ≡ without_turned body.now pieces.old.items }
+{
+    let coming = body.coming();
+    pieces.retain(|piece| !points_into(&coming, piece));
+}
+
+// Whether a piece points to a leaf that begins with one of some keys.
+fn points_into(keys: &KeyRange, piece: &TwigPiece) -> bool
+    ensures { result ≡ (is_between (rank keys.now.from) (rank keys.now.to) (rank piece.now.key)
+        && is_pointer piece.now.part) }
+{
+    match piece.part {
+        TwigPart::Pointer(_) => { !piece.key.is_below(keys.from) && piece.key.is_below(keys.to) }
+        TwigPart::Blocks(_) => false,
+    }
 }
 
 // Whether a cell is a leaf of which nothing stays behind the blocks that come.

@@ -174,7 +174,7 @@ fn breaks_whole<X: Abort + Threads + Wait + Sync>(
 #[test]
 fn failing_calls_are_told(rt: HostRuntime) -> Result<(), Fail> {
     let mut broken = 0u32;
-    for nth in 11..34u64 {
+    for nth in 11..33u64 {
         if breaks_whole(&rt, rt.alloc(), nth)? {
             broken = broken.saturating_add(1);
         }
@@ -198,7 +198,7 @@ device: clock 18 faults 1\n";
 #[test]
 fn failing_sync_of_the_header_is_told(rt: HostRuntime) -> Result<(), Fail> {
     let mut dev = fresh(&rt, rt.alloc(), 64)?;
-    let (status, told) = failing(&rt, rt.alloc(), &mut dev, 26)?;
+    let (status, told) = failing(&rt, rt.alloc(), &mut dev, 25)?;
     assert_eq!(&rt; status, 6);
     assert_eq!(&rt; told.as_slice(), BROKEN.as_bytes());
     Ok(())

@@ -10,8 +10,8 @@ use std::test::Fail;
 use std::thread::Threads;
 
 // The call of the device that is the first read behind the opening, counted from the one that makes it:
-// 43 make the volume and its files, and six open it.
-const FIRST_READ: u64 = 50;
+// 42 make the volume and its files, and five open it.
+const FIRST_READ: u64 = 48;
 
 const WRITES: &str = "\
 script\n\

@@ -10,10 +10,10 @@ use std::test::Fail;
 use std::thread::Threads;
 
 /// A place in an image, its block and the byte in it, and what is put there.
-pub type Change = (u64, usize, &'static [u8]);
+pub type Change<'a> = (u64, usize, &'a [u8]);
 
 /// Makes changes in the image of a device.
-pub fn change(alloc: Global, dev: &mut MemoryDevice, changes: &[Change]) -> Result<(), Fail> {
+pub fn change(alloc: Global, dev: &mut MemoryDevice, changes: &[Change<'_>]) -> Result<(), Fail> {
     let mut block = Block::zeroed(alloc)?;
     for &(at, place, bytes) in changes {
         put(dev, &mut block, at, place, bytes)?;
@@ -60,5 +60,22 @@ pub fn runs_so<X: Abort + Threads + Wait + Sync>(
     let told = printed(rt, alloc, &RUN, dev, text, 0)?;
     let told = String::from_utf8_lossy(alloc, &told)?;
     assert_eq!(rt; told.as_str(), wanted);
+    Ok(())
+}
+
+/// Ends the test unless a call that only reads goes well and prints just these bytes.
+pub fn prints<X: Abort + Threads + Wait + Sync>(
+    rt: &X,
+    alloc: Global,
+    words: &[&str],
+    dev: &mut MemoryDevice,
+    wanted: &[u8],
+) -> Result<(), Fail> {
+    let told = printed(rt, alloc, words, dev, "", 0)?;
+    if told.as_slice() != wanted {
+        let text = String::from_utf8_lossy(alloc, &told)?;
+        let wanted = String::from_utf8_lossy(alloc, wanted)?;
+        assert_eq!(rt; text.as_str(), wanted.as_str());
+    }
     Ok(())
 }

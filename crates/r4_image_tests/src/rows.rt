@@ -14,7 +14,7 @@ use std::thread::Threads;
 struct Row {
     blocks: u64,
     made: &'static str,
-    changes: &'static [Change],
+    changes: &'static [Change<'static>],
     text: &'static str,
     told: &'static str,
 }

@@ -21,7 +21,7 @@ static NODES: [u64; 7] = [22, 24, 25, 26, 27, 28, 29];
 
 // In the superblock the number of free blocks, the root and the height; in the bitmap the bits of blocks
 // 24 to 29 and 40.
-static CHANGES: [Change; 5] = [
+static CHANGES: [Change<'static>; 5] = [
     (17, 8, &[33]),
     (17, 16, &[29]),
     (17, 68, &[8]),

@@ -1,6 +1,6 @@
 //! The power is cut while a large file is made and while a second transaction writes it.
 
-use crate::large::{Body, Piece, has_bytes, shows};
+use crate::large::{Body, has_bytes, shows};
 use r4_outside::MemoryDevice;
 use r4_run_testing::{LIST, REPLAY, fresh, printed};
 use std::alloc::Global;
@@ -42,19 +42,13 @@ const EMPTY: &str = "d 0755 2 0 0 0 /\n";
 static FIRST: Body = Body {
     path: "/f",
     line: "f 0644 1 0 0 20000 /f\n",
-    pieces: &[Piece {
-        text: "a",
-        times: 20_000,
-    }],
+    pieces: &[("a", 20_000)],
 };
 
 static SECOND: Body = Body {
     path: "/f",
     line: "f 0644 1 0 0 40000 /f\n",
-    pieces: &[Piece {
-        text: "b",
-        times: 40_000,
-    }],
+    pieces: &[("b", 40_000)],
 };
 
 // How many writes come before that of the journal header in each of the two commits. The first one

@@ -1,5 +1,6 @@
 //! What is done with large files in two runs, and what is found then.
 
+use crate::traces::{Line, Told};
 use r4_outside::MemoryDevice;
 use r4_run_testing::{LIST, RUN, fresh, printed};
 use std::alloc::Global;
@@ -10,17 +11,8 @@ use std::thread::Threads;
 
 const CHECK: [&str; 2] = ["check", "image"];
 
-/// A text of scripts, and what its run prints.
-pub struct Told {
-    pub text: &'static str,
-    pub trace: &'static str,
-}
-
 /// A text that stands so many times in a file.
-pub struct Piece {
-    pub text: &'static str,
-    pub times: u32,
-}
+pub type Piece = (&'static str, u32);
 
 /// A file: its path, its line in a listing, and its bytes.
 pub struct Body {
@@ -34,7 +26,7 @@ pub struct Body {
 pub struct Large {
     pub name: &'static str,
     pub blocks: u64,
-    pub runs: &'static [Told],
+    pub runs: &'static [&'static [Line]],
     pub listed: &'static str,
     pub body: Body,
     pub checked: &'static str,
@@ -48,22 +40,22 @@ pub fn holds<X: Abort + Threads + Wait + Sync>(
 ) -> Result<(), Fail> {
     let mut dev = fresh(rt, alloc, row.blocks)?;
     for run in row.runs {
-        tells(rt, alloc, &mut dev, run, row.name)?;
+        tells(rt, alloc, &mut dev, &Told::of(alloc, run)?, row.name)?;
     }
     is_left(rt, alloc, &mut dev, row)
 }
 
-// Ends the test unless a run prints just its trace.
-fn tells<X: Abort + Threads + Wait + Sync>(
+/// Ends the test unless a run prints just its trace.
+pub fn tells<X: Abort + Threads + Wait + Sync>(
     rt: &X,
     alloc: Global,
     dev: &mut MemoryDevice,
     run: &Told,
     name: &str,
 ) -> Result<(), Fail> {
-    let told = printed(rt, alloc, &RUN, dev, run.text, 0)?;
+    let told = printed(rt, alloc, &RUN, dev, run.text.as_str(), 0)?;
     let told = String::from_utf8_lossy(alloc, &told)?;
-    assert_eq!(rt; told.as_str(), run.trace, "{name}");
+    assert_eq!(rt; told.as_str(), run.trace.as_str(), "{name}");
     Ok(())
 }
 
@@ -110,17 +102,17 @@ pub fn has_bytes<X: Threads + Wait + Sync>(
 // What is listed of a file: its line, its bytes and a newline.
 fn listing_of(alloc: Global, body: &Body) -> Result<String, Fail> {
     let mut text = String::from_str(alloc, body.line)?;
-    for piece in body.pieces {
-        push(&mut text, piece)?;
+    for &(part, times) in body.pieces {
+        push(&mut text, part, times)?;
     }
     text.push_str("\n")?;
     Ok(text)
 }
 
 // Appends a text as often as it stands there.
-fn push(text: &mut String, piece: &Piece) -> Result<(), Fail> {
-    for _ in 0..piece.times {
-        text.push_str(piece.text)?;
+fn push(text: &mut String, part: &str, times: u32) -> Result<(), Fail> {
+    for _ in 0..times {
+        text.push_str(part)?;
     }
     Ok(())
 }

@@ -9,12 +9,18 @@ mod cut;
 #[cfg(test)]
 mod filled;
 #[cfg(test)]
+mod grown;
+#[cfg(test)]
 mod holes;
 #[cfg(test)]
 mod large;
 #[cfg(test)]
+mod limits;
+#[cfg(test)]
 mod removed;
 #[cfg(test)]
 mod shortened;
+#[cfg(test)]
+mod traces;
 #[cfg(test)]
 mod turned;

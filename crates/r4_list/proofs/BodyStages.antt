@@ -1,5 +1,5 @@
 -- What a call keeps that prints and fetches blocks that a cell names.
-use Rattle.std.proofs.Common.{◌≡◌, inr, ℕ, List, sym, subst, arith}
+use Rattle.std.proofs.Common.{◌≡◌, ℕ, List, sym, subst, arith}
 use Rattle.std.specs.Prelude.{Contains, Result, Ok, Err, IfErr}
 use Rattle.std.specs.Result.{IsErrAnd}
 use Rattle.r4_base.specs.Tree.{Name}

@@ -1,12 +1,10 @@
 -- What the parts of a listing say, put together.
-use Rattle.std.proofs.Common.{◌≡◌, ◌≢◌, ◌⊎◌, inl, inr, ⊎_elim, ℕ, Bool, false, cond, List, [], ◌∷◌, ◌<◌, ◌≤◌, refl, sym, ap, subst, ◌∙◌, arith, Result, Ok, Err}
-use Rattle.std.specs.Prelude.{◌==◌, Contains, None, IfErr, IfOk}
+use Rattle.std.proofs.Common.{◌≡◌, ◌⊎◌, inl, inr, ⊎_elim, ℕ, List, [], ◌<◌, ◌≤◌, refl, sym, ap, subst, ◌∙◌, arith, Result, Ok, Err}
+use Rattle.std.specs.Prelude.{None, IfErr, IfOk}
 use Rattle.std.proofs.lemmas.Bool.{cases_lt}
-use Rattle.std.proofs.lemmas.Bool.Decides.{nat_tests}
 use Rattle.std.proofs.lemmas.List.{get_or_past}
-use Rattle.r4_base.proofs.Frame.{chain_in_range, first_in_range, firsts, length-put_pairs}
-use Rattle.r4_base.proofs.Members.{member_here, member_later}
-use Rattle.r4_base.specs.Chain.{HasLog, Settles, Txn, chain_pairs, home, home_from}
+use Rattle.r4_base.proofs.Frame.{chain_in_range, first_in_range, length-put_pairs}
+use Rattle.r4_base.specs.Chain.{HasLog, Settles, Txn, chain_pairs, home}
 use Rattle.r4_base.specs.Image.{Image, IsLawful, block_at, put_pairs}
 use Rattle.r4_base.specs.declared.superblock.LayoutFault.{LayoutFault}
 use Rattle.r4_base.specs.declared.superblock.Super40.{Super40}
@@ -27,6 +25,7 @@ use Rattle.r4_outside.proofs.Moments.{goes_both}
 use Rattle.r4_outside.specs.Device.{State, Goes, Rose, TellsReads, lent_to}
 use Rattle.r4_search.specs.Pool.{LeavesDevice}
 use Rattle.r4_outside.specs.Sink.{SinkState}
+use Rattle.r4_replay.proofs.Homes.{home_other}
 use Rattle.r4_replay.specs.Homes.{TellsHomes, home_in}
 use Rattle.r4_replay.specs.Reading.{Idles}
 use Rattle.r4_replay.specs.Replay.{Faulted}
@@ -73,13 +72,6 @@ log_text first now k (BadSize blocks) x m text is f told v = text_without text k
 log_text first now k NoRoomForLog x m text is f told v = text_without text k x NoMemory is tt
 
 -- ---- blocks behind the last one are no originals
-
-home_other : (ps : List (ℕ × ℕ)) (b so_far : ℕ) → (Contains (firsts ps) b → ⊥) → home_from ps b so_far ≡ so_far
-home_other [] b so_far out = refl
-home_other (p ∷ ps) b so_far out =
-    let other : b ≢ p.0 = λ is. out (member_here p.0 (firsts ps) b is) in
-    let test : (b == p.0) ≡ false = grind (arith, nat_tests) in
-    home_other ps b _ (λ h. out (member_later p.0 (firsts ps) b h)) ∙ ap (λ (k : Bool). cond k p.1 so_far) test
 
 home_past : (n : ℕ) (image : Image) (chain : List Txn) (b : ℕ) → HasLog n image chain → 20 < n → n ≤ b → home (chain_pairs chain) b ≡ b
 home_past n image chain b h more past = home_other (chain_pairs chain) b b (λ o. ⊎_elim

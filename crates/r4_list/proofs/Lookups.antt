@@ -1,6 +1,6 @@
 -- The last cell of a path, and why a path ends early.
 use Rattle.std.proofs.Common.{◌≡◌, inl, inr, ℕ, zero, suc, ◌+◌, ◌*◌, ◌^◌, ◌-◌, ◌<◌, ◌≤◌, List, [], ◌∷◌, ◌++◌, refl, sym, ap, subst, ◌∙◌, arith}
-use Rattle.std.specs.Prelude.{◌⊎◌, Option, Some, None, Contains, All, Result, Ok, Err, IfErr, slice_index}
+use Rattle.std.specs.Prelude.{Option, Some, None, Contains, All, Result, Ok, Err, IfErr, slice_index}
 use Rattle.std.specs.Result.{IsErrAnd}
 use Rattle.std.proofs.lemmas.List.Elements.{All-contains}
 use Rattle.std.proofs.lemmas.Option.{same_Some}
@@ -11,7 +11,7 @@ use Rattle.r4_base.specs.Tree.{Name, Span}
 use Rattle.r4_base.specs.declared.key.Key.{Key}
 use Rattle.r4_base.proofs.Choices.{nothing_in}
 use Rattle.r4_outside.specs.Device.{State}
-use Rattle.r4_cell.specs.Seen.{CellSeen, node_of}
+use Rattle.r4_cell.specs.Seen.{CellSeen}
 use Rattle.r4_cell.specs.declared.change.Root.{Root}
 use Rattle.r4_search.specs.Pool.{PoolState, Goes, IsFrom, IsKnown, IsNamedFrom, IsOf, KnowsNames, IsNamed, LeavesDevice}
 use Rattle.r4_search.specs.Path.{Follows, Descends, EndsAt, IsPath, KnowsOn, Stops, last_of, root_name}

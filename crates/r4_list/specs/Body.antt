@@ -1,7 +1,7 @@
 -- The bytes of a file's body, as items have them (docs/program.md, "Listing"). A key is its rank.
-use Rattle.std.specs.Prelude.{◌≡◌, ℕ, ◌⊎◌, ◌+◌, ◌-◌, ◌/◌, ◌<◌, ◌≤◌, false, length, List, [], ◌∷◌, ◌++◌, Contains, Some, None, Result, IfOk, IfErr, OnErr, replicate, slice_index, if◌then◌else◌, ◌==◌}
-use Rattle.r4_base.specs.Extents.{block_of, blocks_in, units_of}
-use Rattle.r4_base.specs.Image.{Image, block_at}
+use Rattle.std.specs.Prelude.{◌≡◌, ℕ, ◌⊎◌, ◌-◌, ◌/◌, ◌<◌, ◌≤◌, false, length, List, ◌++◌, Contains, Some, Result, IfOk, IfErr, OnErr, slice_index}
+use Rattle.r4_base.specs.Extents.{blocks_in, units_of}
+use Rattle.r4_base.specs.Image.{Image}
 use Rattle.r4_base.specs.Node.{Item}
 use Rattle.r4_base.specs.Tree.{Name, Node, Store, Fits, UnitAt}
 use Rattle.r4_base.specs.Key.{body_key}
@@ -10,7 +10,6 @@ use Rattle.r4_base.specs.Volume.{HasContent, HasStat, is_directory}
 use Rattle.r4_base.specs.declared.items.Attr.{Attr}
 use Rattle.r4_base.specs.declared.items.Target.{Target}
 use Rattle.r4_base.specs.declared.key.Key.{Key}
-use Rattle.r4_base.specs.declared.items.Unit.{Unit as ExtentUnit}
 use Rattle.r4_cell.specs.Seen.{CellSeen, node_of}
 use Rattle.r4_cell.specs.declared.change.Root.{Root}
 use Rattle.r4_outside.specs.Device.{State}

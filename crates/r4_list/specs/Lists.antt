@@ -1,5 +1,5 @@
 -- What a listing answers (docs/program.md, "Listing").
-use Rattle.std.specs.Prelude.{◌≡◌, ◌⊎◌, ℕ, ◌<◌, List, ◌++◌, false, Some, None, Result, Ok, Err, IfOk, IfErr, OnOk, OnErr}
+use Rattle.std.specs.Prelude.{◌≡◌, ◌⊎◌, ℕ, ◌<◌, List, ◌++◌, false, Some, None, Result, Ok, IfOk, IfErr, OnOk, OnErr}
 use Rattle.std.specs.BTreeMap.{BTreeMap}
 use Rattle.r4_base.specs.Cell.{cell_fault}
 use Rattle.r4_base.specs.Chain.{Settles}

@@ -1,5 +1,5 @@
 -- What is printed over a pool that reads the tree of a content (docs/program.md, "Listing").
-use Rattle.std.specs.Prelude.{◌≡◌, ℕ, List, ◌++◌, Some, Result, Err, IfErr, OnOk, OnErr}
+use Rattle.std.specs.Prelude.{◌≡◌, ℕ, List, ◌++◌, Some, Result, IfErr, OnOk, OnErr}
 use Rattle.r4_base.specs.Image.{Image}
 use Rattle.r4_base.specs.Value.{Content}
 use Rattle.r4_base.specs.Volume.{HasContent}

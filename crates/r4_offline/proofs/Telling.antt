@@ -4,16 +4,17 @@ use Rattle.r4_outside.specs.Device.{State}
 use Rattle.r4_outside.specs.Sink.{SinkState, Appends}
 use Rattle.r4_replay.specs.Replay.{Replayed}
 use Rattle.r4_replay.specs.declared.fault.ReplayFault.{ReplayFault}
+use Rattle.r4_replay.specs.declared.replaying.PlacedLog.{PlacedLog}
 use Rattle.r4_replay.specs.declared.fault.ReplayFault.TheVariants.{Log, Device, Size, Memory}
 use Rattle.r4_lines.specs.Printed.{Prints}
 use Rattle.r4_offline.specs.Answers.{Replays, TellsFault}
 use Rattle.r4_lines.specs.Lines.{replayed_line, device_line, size_line}
 
 module _ (d d' : State) (k k' : SinkState) where
-  pub told_done : {T E : Type 0} (n : ℕ) (v : T) → Replayed d (Ok n) d' → Appends {E = E} (replayed_line n) k (Ok v) k' → Replays d k 0 d' k'
-  told_done {T} {E} n v was got = record {
+  pub told_done : {T E : Type 0} (log : PlacedLog) (v : T) → Replayed d (Ok log) d' → Appends {E = E} (replayed_line log.count) k (Ok v) k' → Replays d k 0 d' k'
+  told_done {T} {E} log v was got = record {
     codes = inl refl;
-    done = λ is. (n, record { lawful = was.0; none = was.1; put = was.2 }, record { told = got.told; faults = got.faults; cause = tt; whole = got.whole; part = λ before is. tt });
+    done = λ is. (log.count, record { lawful = was.0; none = was.1; put = was.2 }, record { told = got.told; faults = got.faults; cause = tt; whole = got.whole; part = λ before is. tt });
     sink = λ is. absurd (omega (arith, is));
     device = λ is. absurd (omega (arith, is));
     image = λ is. absurd (omega (arith, is));
@@ -23,11 +24,11 @@ module _ (d d' : State) (k k' : SinkState) where
     complete = λ lawful tells fine dev out. inl refl;
   }
 
-  pub told_sink : {T E : Type 0} (n : ℕ) (e : E) → Replayed d (Ok n) d' → Appends {T = T} (replayed_line n) k (Err e) k' → Replays d k 5 d' k'
-  told_sink {T} {E} n e was got = record {
+  pub told_sink : {T E : Type 0} (log : PlacedLog) (e : E) → Replayed d (Ok log) d' → Appends {T = T} (replayed_line log.count) k (Err e) k' → Replays d k 5 d' k'
+  told_sink {T} {E} log e was got = record {
     codes = inr (inl refl);
     done = λ is. absurd (omega (arith, is));
-    sink = λ is. (n, record { lawful = was.0; none = was.1; put = was.2 }, record { told = got.told; faults = got.faults; cause = got.cause; whole = λ before is. tt; part = got.part }, got.cause);
+    sink = λ is. (log.count, record { lawful = was.0; none = was.1; put = was.2 }, record { told = got.told; faults = got.faults; cause = got.cause; whole = λ before is. tt; part = got.part }, got.cause);
     device = λ is. absurd (omega (arith, is));
     image = λ is. absurd (omega (arith, is));
     size = λ is. absurd (omega (arith, is));

@@ -18,7 +18,7 @@ pub fn replay_image<D: Device, K: Sink>(alloc: Global, dev: &mut D, out: &mut K)
     ensures any_moment { IsQuiet (D.state dev.old) → SettlesAlways (D.state dev.old) (D.state dev.new) }
 {
     match replay(alloc, dev) {
-        Ok(count) => match write_replayed(out, count) {
+        Ok(placed) => match write_replayed(out, placed.count) {
             Ok(()) => Status { code: 0 },
             Err(Failed) => Status { code: 5 },
         },

@@ -7,14 +7,18 @@ use Rattle.std.proofs.lemmas.List.{length-append}
 use Rattle.r4_base.specs.Bitmap.{bitmap_block, bitmap_count, bitmap_fault}
 use Rattle.r4_base.specs.Image.{Image, block_at}
 use Rattle.r4_base.specs.Layout.{master_of, super_of}
+use Rattle.r4_base.specs.Log.{header_of}
 use Rattle.r4_base.specs.declared.superblock.Master.{Master}
 use Rattle.r4_base.specs.declared.superblock.Super40.{Super40}
-use Rattle.r4_outside.specs.Device.{State, TellsReads}
+use Rattle.r4_outside.specs.Device.{Goes, State, TellsReads}
+use Rattle.r4_replay.specs.Homes.{TellsHomes, home_in}
 use Rattle.r4_replay.specs.Reading.{Idles}
+use Rattle.r4_replay.specs.Replay.{IsNamed}
+use Rattle.r4_replay.specs.declared.log.Log.{Log}
 use Rattle.r4_space.specs.Bitmaps.{AreBitmapsOf, bitmaps_fault}
 use Rattle.r4_space.proofs.BitmapLaws.{same_fault}
 use Rattle.r4_base.specs.Chain.{committed}
-use Rattle.r4_open.specs.Opening.{AreRead, HasSupers, IsSettledFrom, bitmaps_misfit, format_misfit, layout_misfit, master_misfit}
+use Rattle.r4_open.specs.Opening.{AreRead, HasSupers, IsSettledFrom, NamesHead, bitmaps_misfit, format_misfit, layout_misfit, master_misfit}
 
 pub record Reading (old now : State) (home : ℕ → ℕ) (count : ℕ) (bitmaps : List (List ℕ)) : Type 0 where
   pub idles : Idles old now
@@ -81,3 +85,16 @@ read_later a b home count bitmaps d r = record {
 -- the superblocks of the settled image are those that were read, and what is wrong with the bitmaps is wrong with the image
 pub supers_misfit : (n k : ℕ) (image : Image) (s : Super40) (o : Option ℕ) → HasSupers k image s → bitmap_fault s.block_count s.free_blocks image ≡ o → n ≡ k → layout_misfit n image ≡ bitmaps_misfit o
 supers_misfit n k image s o has is same = layout_is k n image has.master.0 s (sym same) has.master.1 has.format ∙ ap bitmaps_misfit is
+
+-- ---- the head
+
+-- the head of a log that was read is the one that the journal header of the settled image names
+pub log_names_head : (first d : State) (log : Log) → Goes first d → d.seen ≡ first.seen → (TellsReads first → TellsHomes first log) → NamesHead d (home_in log.homes) log.head
+log_names_head first d log goes same tells_homes = λ tells image settled.
+    let h = tells_homes (goes.reads.0 tells) in
+    h.head ∙ ap (λ (i : Image). committed i) (sym same) ∙ ap (λ (x : List ℕ). (header_of x).last) (sym (settled 19 ∙ ap (block_at d.seen) h.header))
+
+-- and that of a log that was put in place is the one that the device's header names
+pub placed_names_head : (put d : State) (head : ℕ) → Goes put d → d.seen ≡ put.seen → IsNamed put head → NamesHead d (λ b. b) head
+placed_names_head put d head goes same named = λ tells image settled.
+    named (goes.reads.0 tells) ∙ ap (λ (i : Image). committed i) (sym same) ∙ ap (λ (x : List ℕ). (header_of x).last) (sym (settled 19))

@@ -53,6 +53,11 @@ IsSettledBy d homes image = IsSettledFrom d (home_in homes) image
 abbrev pub Keeps : (n : ℕ) → (home : ℕ → ℕ) → Type 0
 Keeps n home = (b : ℕ) → b < n → home b < n
 
+-- the journal header of the image whose blocks stand in these names this head
+abbrev pub NamesHead : State → (home : ℕ → ℕ) → (head : ℕ) → Type 0
+NamesHead d home head =
+    TellsReads d → (image : Image) → IsSettledFrom d home image → head ≡ committed image
+
 -- The superblock and the bitmaps are those of the image, and have no fault; the head is the one
 -- that its journal header names.
 pub record IsOpening (n : ℕ) (image : Image) (o : Opened) : Type 0 where

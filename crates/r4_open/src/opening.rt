@@ -1,4 +1,4 @@
-//! The superblocks, the bitmaps and the journal header of an image (docs/layout.md).
+//! The superblocks and the bitmaps of an image (docs/layout.md).
 
 ghost use Rattle.std.specs.Prelude.{◌≡◌, ◌<◌, ◌≤◌, IfOk, IfErr};
 ghost use Rattle.r4_base.specs.Bitmap.{bitmap_block, bitmap_count};
@@ -7,26 +7,29 @@ ghost use Rattle.r4_outside.specs.Device.{Rose};
 ghost use Rattle.r4_replay.specs.Homes.{StaysWithin, home_in};
 ghost use Rattle.r4_replay.specs.Reading.{Idles};
 ghost use Rattle.r4_open.specs.declared.opened.Unopened.TheVariants.{Layout as Refused};
-ghost use Rattle.r4_open.specs.Opening.{AreAccepted, AreRead, IsReadCause, Keeps, Opens, ReadsSupers};
+ghost use Rattle.r4_open.specs.Opening.{AreAccepted, AreRead, IsReadCause, Keeps, NamesHead, Opens};
+ghost use Rattle.r4_open.specs.Opening.{ReadsSupers};
 
 use crate::homes::{Homes, InPlace};
 use crate::opened::{Opened, Unopened};
 use r4_base::{
-    Block, BlockNo, HEADER_BLOCK, LayoutFault, MASTER_BLOCK, SUPER_BLOCK, Super40, bitmap_block,
-    bitmap_count,
+    Block, BlockNo, LayoutFault, MASTER_BLOCK, SUPER_BLOCK, Super40, bitmap_block, bitmap_count,
 };
 use r4_layout::{read_master, read_super};
-use r4_logfmt::read_header;
 use r4_outside::Device;
 use r4_replay::Log;
 use r4_space::find_fault;
 use std::alloc::Global;
 
 /// Opens the settled image of a device of `device_blocks` blocks, of which `log` says where its
-/// blocks stand. What is read is the master superblock, the format superblock, each bitmap, rising,
-/// and the journal header, each once, and nothing is written. `Layout` names the first fault in
-/// this order; `Failed` comes only where the count of faults rose, and `Memory` where a growth was
-/// refused (docs/layout.md, "Superblocks" and "Bitmaps").
+/// blocks stand. What is read is the master superblock, the format superblock and each bitmap,
+/// rising, each once, and nothing is written. The head is the one that the log was read with: the
+/// journal header is not read again. `Layout` names the first fault in this order; `Failed` comes
+/// only where the count of faults rose, and `Memory` where a growth was refused (docs/layout.md,
+/// "Superblocks" and "Bitmaps").
+///
+/// Condition: the journal header of the settled image names the log's head, as it does where the
+/// log is the one that `read_log` answered of this device.
 pub fn open_image<D: Device>(
     alloc: Global,
     dev: &mut D,
@@ -36,29 +39,35 @@ pub fn open_image<D: Device>(
     requires blocks { device_blocks ≡ (D.state dev.old).blocks }
     requires more { 64 ≤ device_blocks }
     requires homes { StaysWithin device_blocks log.now }
+    requires names { NamesHead (D.state dev.old) (home_in log.now.homes) log.now.head }
     ensures idles { Idles (D.state dev.old) (D.state dev.new) }
     ensures opens { Opens (D.state dev.old) (home_in log.now.homes) result (D.state dev.new) }
     ensures lawful { IfOk result (λ o. IsLawfulSuper device_blocks o.super40) }
     ensures accepted { IfOk result (λ o. AreAccepted o.super40 o.bitmaps.items) }
 {
-    open_at(alloc, dev, log, device_blocks)
+    open_at(alloc, dev, log, log.head(), device_blocks)
 }
 
 /// The same of the image that a device of `device_blocks` blocks has as it stands, as after a
-/// replay of its log.
+/// replay of its log, which told the head.
+///
+/// Condition: the journal header of the device names `head`, as `replay` says of the head that it
+/// answers.
 pub fn open_in_place<D: Device>(
     alloc: Global,
     dev: &mut D,
+    head: BlockNo,
     device_blocks: u64,
 ) -> Result<Opened, Unopened>
     requires blocks { device_blocks ≡ (D.state dev.old).blocks }
     requires more { 64 ≤ device_blocks }
+    requires names { NamesHead (D.state dev.old) (λ b. b) head.0 }
     ensures idles { Idles (D.state dev.old) (D.state dev.new) }
     ensures opens { Opens (D.state dev.old) (λ b. b) result (D.state dev.new) }
     ensures lawful { IfOk result (λ o. IsLawfulSuper device_blocks o.super40) }
     ensures accepted { IfOk result (λ o. AreAccepted o.super40 o.bitmaps.items) }
 {
-    open_at(alloc, dev, &InPlace, device_blocks)
+    open_at(alloc, dev, &InPlace, head, device_blocks)
 }
 
 // The same of an image of which it is known where its blocks stand.
@@ -66,11 +75,13 @@ fn open_at<D: Device, H: Homes>(
     alloc: Global,
     dev: &mut D,
     homes: &H,
+    head: BlockNo,
     device_blocks: u64,
 ) -> Result<Opened, Unopened>
     requires blocks { device_blocks ≡ (D.state dev.old).blocks }
     requires more { 64 ≤ device_blocks }
     requires homes { Keeps device_blocks (H.home homes.now) }
+    requires names { NamesHead (D.state dev.old) (H.home homes.now) head.0 }
     ensures idles { Idles (D.state dev.old) (D.state dev.new) }
     ensures opens { Opens (D.state dev.old) (H.home homes.now) result (D.state dev.new) }
     ensures lawful { IfOk result (λ o. IsLawfulSuper device_blocks o.super40) }
@@ -82,8 +93,6 @@ fn open_at<D: Device, H: Homes>(
     if let Some(block) = find_fault(&bitmaps, super40.block_count, super40.free_blocks) {
         return Err(refused(BlockNo(block), LayoutFault::Bitmap));
     }
-    dev.read(homes.home_of(HEADER_BLOCK), &mut buffer)?;
-    let head = BlockNo(read_header(buffer.bytes()).last);
     Ok(Opened {
         super40,
         bitmaps,

@@ -5,6 +5,7 @@ use r4_base::{Memory, Super40};
 use r4_mkfs::mkfs;
 use r4_open::{Unopened, open_in_place};
 use r4_outside::{Device, MemoryDevice};
+use r4_replay::{ReplayFault, replay};
 use std::alloc::Global;
 use std::process::Abort;
 use std::test::Fail;
@@ -28,15 +29,20 @@ fn volume(alloc: Global) -> Result<MemoryDevice, Fail> {
     Ok(dev)
 }
 
-// Opens it: its superblock.
-fn opened(alloc: Global, dev: &mut MemoryDevice) -> Result<Super40, Unopened> {
+// Opens it, with the head of its log: its superblock.
+fn opened<D: Device>(alloc: Global, dev: &mut D) -> Result<Super40, Unopened> {
+    let placed = match replay(alloc, dev) {
+        Ok(placed) => placed,
+        Err(ReplayFault::Memory) => return Err(Unopened::Memory),
+        Err(_) => return Err(Unopened::Failed),
+    };
     let Ok(blocks) = dev.blocks() else {
         return Err(Unopened::Failed);
     };
     if blocks < 64 {
         return Err(Unopened::Failed);
     }
-    let found = open_in_place(alloc, dev, blocks)?;
+    let found = open_in_place(alloc, dev, placed.head, blocks)?;
     Ok(found.super40)
 }
 

@@ -1,6 +1,6 @@
 -- Where the content of each block stands, one pair after the other.
 use Rattle.std.proofs.Common.{◌≡◌, inl, inr, ℕ, ◌+◌, ◌<◌, ◌==◌, Bool, true, false, cond, List, [], ◌∷◌, ◌++◌, length, take, get_or, Option, Some, refl, sym, ap, subst, ◌∙◌, arith}
-use Rattle.std.specs.Prelude.{All, map, reverse}
+use Rattle.std.specs.Prelude.{All, Contains, map, reverse}
 use Rattle.std.proofs.lemmas.List.Elements.{All-append, All-head, All-map, All-nil, All-push, All-tail}
 use Rattle.std.specs.Ordering.{nat_cmp}
 use Rattle.std.specs.Option.{unwrap_or}
@@ -8,17 +8,18 @@ use Rattle.std.specs.BTreeMap.{BTreeMap, get, is_at, Updates}
 use Rattle.std.proofs.lemmas.Bool.{cases_eq, cases_lt}
 use Rattle.std.proofs.lemmas.Bool.Decides.{nat_tests}
 use Rattle.std.proofs.lemmas.List.{reverse-append, take_more}
-use Rattle.r4_base.specs.Chain.{PairInRange, Txn, chain_pairs, home, home_from}
+use Rattle.r4_base.specs.Chain.{PairInRange, Txn, chain_pairs, committed, home, home_from}
 use Rattle.r4_base.specs.Chain.{HasLog}
 use Rattle.r4_base.specs.Image.{block_at}
 use Rattle.r4_base.proofs.Frame.{settled_at}
+use Rattle.r4_base.proofs.Members.{member_here, member_later}
 use Rattle.r4_outside.specs.Device.{State, TellsReads}
 use Rattle.r4_replay.specs.declared.txn.Txn.{Txn as TxnHere}
 use Rattle.r4_replay.specs.declared.log.Log.{Log}
 use Rattle.r4_replay.specs.Chains.{InRangeAll}
 use Rattle.r4_replay.specs.Txns.{chain_shown, txn_shown}
 use Rattle.r4_replay.specs.Homes.{home_in, TellsHomes}
-use Rattle.r4_replay.proofs.Finishing.{length_chain}
+use Rattle.r4_replay.proofs.Finishing.{header_apart, length_chain}
 
 pub home_both : (ps qs : List (ℕ × ℕ)) (b so_far : ℕ) → home_from (ps ++ qs) b so_far ≡ home_from qs b (home_from ps b so_far)
 home_both [] qs b so_far = refl
@@ -48,14 +49,26 @@ homes_more start now new ps i lt so_far u b =
 pub home_later : (chain older : List Txn) (t : Txn) (old new : BTreeMap ℕ ℕ) (b : ℕ) → chain ≡ t ∷ older → home_in old b ≡ home (chain_pairs older) b → home_in new b ≡ home_from t.pairs b (home_in old b) → home_in new b ≡ home (chain_pairs chain) b
 home_later chain older t old new b is so_far more = more ∙ ap (λ (h : ℕ). home_from t.pairs b h) so_far ∙ sym (home_both (chain_pairs older) t.pairs b b) ∙ ap (λ (l : List Txn). home (chain_pairs l) b) (sym is)
 
-pub tells_homes : (old : State) (txns : List TxnHere) (log : Log) → TellsReads old → HasLog old.blocks old.seen (chain_shown txns) → log.count ≡ length txns
+-- a block without a copy is its own home
+pub home_other : (ps : List (ℕ × ℕ)) (b so_far : ℕ) → (Contains (map (λ p. p.0) ps) b → ⊥) → home_from ps b so_far ≡ so_far
+home_other [] b so_far out = refl
+home_other (p ∷ ps) b so_far out = elim (cases_eq b p.0) [
+  | inl is ↦ absurd (out (member_here p.0 (map (λ p. p.0) ps) b is))
+  | inr other ↦
+      let test : (b == p.0) ≡ false = grind (arith, nat_tests, other) in
+      home_other ps b _ (λ later. out (member_later p.0 (map (λ p. p.0) ps) b later)) ∙ ap (λ (t : Bool). cond t p.1 so_far) test
+]
+
+pub tells_homes : (old : State) (txns : List TxnHere) (log : Log) → TellsReads old → HasLog old.blocks old.seen (chain_shown txns) → log.count ≡ length txns → log.head ≡ committed old.seen
     → ((b : ℕ) → home_in log.homes b ≡ home (chain_pairs (chain_shown txns)) b) → TellsHomes old log
-tells_homes old txns log tells has count homes = record {
+tells_homes old txns log tells has count head homes = record {
   chain = chain_shown txns;
   has = has;
   count = count ∙ sym (length_chain txns);
   homes = homes;
   settled = λ b lt. settled_at old.seen old.blocks (chain_shown txns) b has (omega (arith, lt, tells.blocks)) ∙ ap (λ (h : ℕ). block_at old.seen h) (sym (homes b));
+  head = head;
+  header = homes 19 ∙ home_other (chain_pairs (chain_shown txns)) 19 19 (header_apart old.blocks old.seen (chain_shown txns) has);
 }
 
 -- ---- what is in place of a block of the device is a block of the device

@@ -1,5 +1,5 @@
 -- Where nothing is written.
-use Rattle.std.proofs.Common.{◌≡◌, ℕ, refl, sym, subst, arith}
+use Rattle.std.proofs.Common.{◌≡◌, ℕ, refl, sym, subst}
 use Rattle.r4_base.specs.Image.{Image}
 use Rattle.r4_outside.specs.Device.{State, Goes, IsQuiet}
 use Rattle.r4_outside.proofs.Moments.{one_left}

@@ -6,6 +6,7 @@ use Rattle.r4_base.specs.Refusal.{IsRefused}
 use Rattle.r4_outside.specs.Device.{State, TellsReads, Rose}
 use Rattle.r4_replay.specs.declared.fault.Stop.{Stop}
 use Rattle.r4_replay.specs.declared.fault.Stop.TheVariants.{Failed, Memory, Log}
+use Rattle.r4_replay.specs.declared.chain.Whole.{Whole}
 use Rattle.r4_replay.specs.declared.txn.Txn.{Txn}
 use Rattle.r4_replay.specs.Txns.{chain_shown}
 
@@ -23,9 +24,9 @@ ReadsLog header footer old (Err (Log b f)) new = TellsReads old → header ≡ c
 ReadsLog header footer old (Err Failed) new = Rose old.faults new.faults
 ReadsLog header footer old (Err Memory) new = Unit {0}
 
--- The whole log: its transactions, or the refusal.
-abbrev pub ReadsWhole : State → Result (Vec Txn) Stop → State → Type 0
-ReadsWhole old (Ok txns) new = TellsReads old → HasLog old.blocks old.seen (chain_of txns)
+-- The whole log: its transactions and the head that the header names, or the refusal.
+abbrev pub ReadsWhole : State → Result Whole Stop → State → Type 0
+ReadsWhole old (Ok whole) new = TellsReads old → HasLog old.blocks old.seen (chain_of whole.txns) × (whole.head ≡ committed old.seen)
 ReadsWhole old (Err (Log b f)) new = TellsReads old → IsRefused old.blocks old.seen (record { block = b; fault = f })
 ReadsWhole old (Err Failed) new = Rose old.faults new.faults
 ReadsWhole old (Err Memory) new = Unit {0}

@@ -1,5 +1,5 @@
 -- What replay answers and leaves (docs/layout.md, "Replay").
-use Rattle.std.specs.Prelude.{◌≡◌, ◌⊎◌, ℕ, ◌<◌, ◌≤◌, List, [], ◌∷◌, length, Result, Ok, Err}
+use Rattle.std.specs.Prelude.{◌≡◌, ◌⊎◌, ℕ, ◌<◌, List, [], ◌∷◌, length, Result, Ok, Err}
 use Rattle.r4_base.specs.Bytes.{put_all}
 use Rattle.r4_base.specs.Image.{Image, IsLawful, block_at, put_pairs, AgreesOutside}
 use Rattle.r4_base.specs.Log.{footer_fields}
@@ -11,6 +11,7 @@ use Rattle.r4_replay.specs.declared.fault.Stop.{Stop}
 use Rattle.r4_replay.specs.declared.fault.Stop.TheVariants.{Failed, Memory as NoMemory, Log as Fault}
 use Rattle.r4_replay.specs.declared.fault.ReplayFault.{ReplayFault}
 use Rattle.r4_replay.specs.declared.fault.ReplayFault.TheVariants.{Log, Device, Size, Memory}
+use Rattle.r4_replay.specs.declared.replaying.PlacedLog.{PlacedLog}
 
 -- the footer that names a transaction's head, with the head's three numbers
 abbrev pub footer_naming : Txn → Footer
@@ -31,13 +32,17 @@ pub record PutInPlace (old : State) (transactions : ℕ) (new : State) : Type 0 
   pub footer : block_at new.seen 20 ≡ footer_after chain (block_at old.seen 20)
   pub equal : committed new.seen ≡ flushed new.seen
 
+-- the journal header names this head, where the device tells what reading gives
+abbrev pub IsNamed : State → (head : ℕ) → Type 0
+IsNamed d head = TellsReads d → head ≡ committed d.seen
+
 -- The log of an image of n blocks is refused so.
 abbrev pub RefusedAs : ℕ → Image → Refusal → Type 0
 RefusedAs n image r = IsRefused n image r
 
 -- The log of a device of a lawful size, read and put in place.
-abbrev pub Works : State → Result ℕ Stop → State → Type 0
-Works old (Ok count) new = (count ≡ 0 → Untouched old new) × (TellsReads old → PutInPlace old count new)
+abbrev pub Works : State → Result PlacedLog Stop → State → Type 0
+Works old (Ok log) new = (log.count ≡ 0 → Untouched old new) × (TellsReads old → PutInPlace old log.count new) × IsNamed new log.head.0
 Works old (Err (Fault block fault)) new = Untouched old new × (TellsReads old → RefusedAs old.blocks old.seen (record { block = block; fault = fault }))
 Works old (Err Failed) new = Rose old.faults new.faults
 Works old (Err NoMemory) new = Untouched old new
@@ -54,8 +59,8 @@ abbrev pub CountsBlocks : State → Result ℕ ReplayFault → State → Type 0
 CountsBlocks old (Ok n) new = (n ≡ old.blocks) × IsLawful old.blocks
 CountsBlocks old (Err fault) new = Faulted old fault new
 
-abbrev pub Replayed : State → Result ℕ ReplayFault → State → Type 0
-Replayed old (Ok count) new = IsLawful old.blocks × (count ≡ 0 → Untouched old new) × (TellsReads old → PutInPlace old count new)
+abbrev pub Replayed : State → Result PlacedLog ReplayFault → State → Type 0
+Replayed old (Ok log) new = IsLawful old.blocks × (log.count ≡ 0 → Untouched old new) × (TellsReads old → PutInPlace old log.count new) × IsNamed new log.head.0
 Replayed old (Err fault) new = Faulted old fault new
 
 abbrev pub IsDeviceFault : State → ReplayFault → Type 0

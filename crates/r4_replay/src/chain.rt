@@ -17,26 +17,34 @@ use r4_logfmt::{read_footer, read_header};
 use r4_outside::Device;
 use std::alloc::Global;
 
-/// The transactions of the log, the oldest first. `footer` holds the footer's block then.
+/// The log as it was read: its transactions, the oldest first, and the head that the journal header names.
+#[derive(Debug, Drop)]
+pub struct Whole {
+    pub txns: Vec<Txn>,
+    pub head: u64,
+}
+
+/// The transactions of the log, and the head that its header names. `footer` holds the footer's block then.
 pub fn read_whole<D: Device>(
     alloc: Global,
     dev: &mut D,
     blocks: u64,
     footer: &mut Block,
     buffer: &mut Block,
-) -> Result<Vec<Txn>, Stop>
+) -> Result<Whole, Stop>
     requires blocks { blocks ≡ (D.state dev.old).blocks }
     requires more { 20 < blocks }
     ensures idles { Idles (D.state dev.old) (D.state dev.new) }
     ensures reads { ReadsWhole (D.state dev.old) result (D.state dev.new) }
     ensures footer { OnOk result (TellsReads (D.state dev.old) → footer.new ≡ block_at (D.state dev.old).seen 20) }
-    ensures in_range { IfOk result (λ txns. InRangeAll blocks txns.items) }
+    ensures in_range { IfOk result (λ whole. InRangeAll blocks whole.txns.items) }
 {
     dev.read(HEADER_BLOCK, buffer)?;
-    let header = read_header(buffer.bytes()).last;
+    let head = read_header(buffer.bytes()).last;
     dev.read(FOOTER_BLOCK, footer)?;
     let flushed = read_footer(footer.bytes()).last;
-    read_chain(alloc, dev, blocks, header, flushed, buffer)
+    let txns = read_chain(alloc, dev, blocks, head, flushed, buffer)?;
+    Ok(Whole { txns, head })
 }
 
 // The transactions between the numbers of the journal header and footer, the oldest first.

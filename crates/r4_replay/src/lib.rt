@@ -14,4 +14,4 @@ mod txn;
 pub use fault::ReplayFault;
 pub use log::{Log, read_log};
 pub use r4_base::LogFault;
-pub use replaying::replay;
+pub use replaying::{PlacedLog, replay};

@@ -15,11 +15,13 @@ use r4_outside::Device;
 use std::alloc::Global;
 use std::collections::BTreeMap;
 
-/// The log of an image: where the content of each block stands, and how many transactions are not in place.
+/// The log of an image: where the content of each block stands, how many transactions are not in place, and the head
+/// that the journal header names.
 #[derive(Debug, Drop)]
 pub struct Log {
     homes: BTreeMap<u64, u64>,
     count: u64,
+    head: u64,
 }
 
 impl Log {
@@ -37,6 +39,13 @@ impl Log {
         ensures { result ≡ self.now.count }
     {
         self.count
+    }
+
+    /// The head that the journal header names, the newest of the log.
+    pub fn head(&self) -> BlockNo
+        ensures { result.0 ≡ self.now.head }
+    {
+        BlockNo(self.head)
     }
 }
 
@@ -64,10 +73,11 @@ fn look_up<D: Device>(alloc: Global, dev: &mut D, blocks: u64) -> Result<Log, St
 {
     let mut buffer = Block::zeroed(alloc)?;
     let mut footer = Block::zeroed(alloc)?;
-    let txns = read_whole(alloc, dev, blocks, &mut footer, &mut buffer)?;
+    let whole = read_whole(alloc, dev, blocks, &mut footer, &mut buffer)?;
     Ok(Log {
-        homes: homes_of(alloc, &txns)?,
-        count: txns.len() as u64,
+        homes: homes_of(alloc, &whole.txns)?,
+        count: whole.txns.len() as u64,
+        head: whole.head,
     })
 }
 

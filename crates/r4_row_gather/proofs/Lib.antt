@@ -7,3 +7,7 @@ pub mod Planned
 pub mod PlansMade
 pub mod Risen
 pub mod SortedOut
+pub mod Still
+pub mod Numbers
+pub mod InTurn
+pub mod Squeezed

@@ -41,15 +41,19 @@ module _ (cells : List CellSeen) (from to : ℕ) (x : Plan) (plan : IsPlanOf cel
       let stays = λ (t : Store Value) (r : Root) (within : StandIn t r cells). still cells x.row plan.begin plan.hi plan.row plan.each plan.pieces plan.fates plan.may
       plan.first plan.among parts plan.parts few above over t r within c made in
       record {
-        still = stays;
-        root = made.root;
-        old = old_among cells x.row plan.begin plan.hi plan.row plan.each plan.pieces plan.fates plan.may plan.first
-            plan.among parts plan.parts few above over c made;
-        new = numbers;
-        stand = stand;
-        names = λ t r within names. subst HaveNames (sym stand)
-            (standing_names cells c.old c.new names (stays t r within).change.new_names numbers);
-        below = twig;
+        brought = record {
+          stays = record {
+            still = stays;
+            root = made.root;
+            old = old_among cells x.row plan.begin plan.hi plan.row plan.each plan.pieces plan.fates plan.may plan.first
+                plan.among parts plan.parts few above over c made;
+            new = numbers;
+            stand = stand;
+            names = λ t r within names. subst HaveNames (sym stand)
+                (standing_names cells c.old c.new names (stays t r within).change.new_names numbers);
+          };
+          below = twig;
+        };
         way = way cells x.row plan.begin plan.hi plan.row plan.each plan.pieces plan.fates plan.may plan.first
             plan.among parts plan.parts few above over c made from to
             plan.clear;

@@ -38,10 +38,9 @@ pub record HasTwigOf (cells : List CellSeen) (from to : ℕ) : Type 0 where
   pub begins : rank twig.lo ≤ from
   pub ends : to ≤ rank twig.hi
 
--- Of some cells of a part of a tree come others, with numbers of theirs: all keys of the range are
--- below one twig that comes. Where leaves go for that, no leaf begins in the range that a new twig
--- names.
-pub record IsGathered (cells : List CellSeen) (from to : ℕ) (g : Gathered) : Type 0 where
+-- Of some cells of a part of a tree come others, with numbers of theirs. No unit changes or comes to
+-- stand in another kind of cell, and the root stays.
+pub record StaysStill (cells : List CellSeen) (g : Gathered) : Type 0 where
   pub still : (t : Store Value) (r : Root) → StandIn t r cells → IsStill t r g.change
   pub root : g.change.root ≡ None
   pub old : (c : CellSeen) → Contains g.change.old c → Contains cells c
@@ -49,7 +48,15 @@ pub record IsGathered (cells : List CellSeen) (from to : ℕ) (g : Gathered) : T
   pub stand : g.cells ≡ g.change.new ++ without (ids_of g.change.old) cells
   pub names : (t : Store Value) (r : Root) → StandIn t r cells → HaveNames cells
       → HaveNames g.cells
+
+-- And all keys of the range are below one twig that comes.
+pub record IsBroughtBelow (cells : List CellSeen) (from to : ℕ) (g : Gathered) : Type 0 where
+  pub stays : StaysStill cells g
   pub below : HasTwigOf g.change.new from to
+
+-- And where leaves go for that, no leaf begins in the range that a new twig names.
+pub record IsGathered (cells : List CellSeen) (from to : ℕ) (g : Gathered) : Type 0 where
+  pub brought : IsBroughtBelow cells from to g
   pub way : (c : CellSeen) → Contains g.change.old c → c.level ≡ 1 → (d : CellSeen)
       → Contains g.change.new d → d.level ≡ 2 → (n : Name) → Contains (node_of d).names n
       → n.level ≡ 1 → (n.lo < from) ⊎ (to ≤ n.lo)

@@ -42,8 +42,8 @@ pub(crate) fn row_among(
     Ok(None)
 }
 
-// A cell of a level that has a key.
-fn cell_at(cells: &[Arc<Cell>], level: u8, key: Key) -> Option<&Arc<Cell>>
+/// A cell of a level, among some cells, that has a key.
+pub(crate) fn cell_at(cells: &[Arc<Cell>], level: u8, key: Key) -> Option<&Arc<Cell>>
     ensures { IfSome result (λ c. IsAt (map (λ x. arc_value x) cells.now) level (rank key)
         (arc_value c.now)) }
 {

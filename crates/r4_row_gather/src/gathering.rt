@@ -70,8 +70,9 @@ fn is_twig_of(cell: &Cell, keys: &KeyRange) -> bool
     cell.level() == TWIG && !keys.from.is_below(cell.lo()) && !cell.hi().is_below(keys.to)
 }
 
-// The cells that stand once a change is made of some: its new ones, and those that it does not replace.
-fn standing(alloc: Global, cells: &[Arc<Cell>], change: &Change) -> Result<Cells, Memory>
+/// The cells that stand once a change is made of some: its new ones, and those that it does not replace. The only error is
+/// want of memory.
+pub(crate) fn standing(alloc: Global, cells: &[Arc<Cell>], change: &Change) -> Result<Cells, Memory>
     ensures { IfOk result (λ s. s ≡ change.now.new
         ++ without (ids_of change.now.old) (map (λ c. arc_value c) cells.now)) }
 {

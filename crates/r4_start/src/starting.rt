@@ -87,13 +87,14 @@ fn open_replayed<D: Device>(alloc: Global, dev: &mut D) -> Result<Opened, OpenWh
     ensures refused { IfErr result (λ why.
         IsOpenFault (D.state dev.old) why (D.state dev.new)) }
 {
-    if let Err(fault) = replay(alloc, dev) {
-        return Err(log_why(fault));
-    }
+    let placed = match replay(alloc, dev) {
+        Ok(placed) => placed,
+        Err(fault) => return Err(log_why(fault)),
+    };
     let Ok(blocks) = dev.blocks() else {
         return Err(device_why(dev));
     };
-    match open_in_place(alloc, dev, blocks) {
+    match open_in_place(alloc, dev, placed.head, blocks) {
         Ok(found) => Ok(found),
         Err(unopened) => Err(image_why(dev, unopened)),
     }

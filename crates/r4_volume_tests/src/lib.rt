@@ -6,6 +6,8 @@ mod listed;
 #[cfg(test)]
 mod listings;
 #[cfg(test)]
+mod reads;
+#[cfg(test)]
 mod same;
 #[cfg(test)]
 mod trees;

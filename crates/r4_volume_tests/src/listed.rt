@@ -126,8 +126,8 @@ fn text_of_f(alloc: Global) -> Result<Spelling, Fail> {
     Ok(text)
 }
 
-// How many blocks are read for the root: header, footer, superblocks, bitmap, header again, and three nodes.
-const READS: u64 = 9;
+// How many blocks are read for the root: header, footer, superblocks, bitmap, and three nodes.
+const READS: u64 = 8;
 
 #[test]
 fn failures_end_a_listing(rt: HostRuntime) -> Result<(), Fail> {

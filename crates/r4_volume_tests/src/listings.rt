@@ -53,8 +53,8 @@ static PATHS: [(&str, &str); 5] = [
     ("/a/", "name\n"),
 ];
 
-// How many blocks are read for the root: header, footer, superblocks, bitmap, header again, root node and leaf.
-const READS: u64 = 8;
+// How many blocks are read for the root: header, footer, superblocks, bitmap, root node and leaf.
+const READS: u64 = 7;
 
 #[test]
 fn a_fresh_volume_is_listed(rt: HostRuntime) -> Result<(), Fail> {

@@ -4,7 +4,9 @@ ghost use Rattle.std.specs.Prelude.{◌≡◌, ◌<◌, IfOk};
 ghost use Rattle.std.specs.Arc.{arc_value};
 ghost use Rattle.r4_base.specs.Image.{IsBlock};
 ghost use Rattle.r4_outside.specs.Device.{Writes};
+ghost use Rattle.r4_wander.specs.Entries.{block_of, bytes_of};
 
+use crate::home_block::HomeBlock;
 use r4_base::{Block, BlockNo, Memory};
 use r4_cell::Cell;
 use r4_outside::{Device, Failed};
@@ -17,6 +19,29 @@ use std::sync::Arc;
 pub(crate) enum What {
     OfCell(Arc<Cell>),
     OfBlock(Arc<Block>),
+}
+
+impl What {
+    /// The block of a home, from now on to be shared by the home and its copy. The block of a cell is shared with the
+    /// cell too, and takes no memory.
+    pub(crate) fn of_home(alloc: Global, home: HomeBlock) -> Result<What, Memory>
+        ensures { IfOk result (λ what. bytes_of what ≡ block_of home) }
+    {
+        match home {
+            HomeBlock::Made(block) => Ok(What::OfBlock(Arc::new(alloc, block)?)),
+            HomeBlock::OfCell(cell) => Ok(What::OfCell(cell)),
+        }
+    }
+
+    /// The same block once more.
+    fn again(&self) -> Result<What, Memory>
+        ensures { IfOk result (λ what. bytes_of what ≡ bytes_of self.now) }
+    {
+        match self {
+            What::OfCell(cell) => Ok(What::OfCell(Arc::try_clone(cell)?)),
+            What::OfBlock(block) => Ok(What::OfBlock(Arc::try_clone(block)?)),
+        }
+    }
 }
 
 /// What to write where.
@@ -59,14 +84,11 @@ impl Entry {
     }
 
     /// A block that is also written elsewhere.
-    pub(crate) fn of_shared(at: u64, block: &Arc<Block>) -> Result<Entry, Memory>
-        ensures { IfOk result (λ e. e ≡ (at, arc_value block.now)) }
+    pub(crate) fn of_shared(at: u64, what: &What) -> Result<Entry, Memory>
+        ensures { IfOk result (λ e. e ≡ (at, bytes_of what.now)) }
     {
-        let block = Arc::try_clone(block)?;
-        Ok(Entry {
-            at,
-            what: What::OfBlock(block),
-        })
+        let what = what.again()?;
+        Ok(Entry { at, what })
     }
 
     /// Makes the write.

@@ -6,29 +6,28 @@ ghost use Rattle.r4_base.specs.Image.{IsBlock};
 ghost use Rattle.r4_base.specs.Log.{head_of, head_block, record_of, record_block, header_of, footer_of};
 ghost use Rattle.r4_wander.specs.LogPlan.{pairs, originals_of, placed_writes, number_after, total, head_says, head_write, record_says, record_writes, header_says, footer_says, header_bytes, footer_bytes};
 
-use crate::entry::Entry;
+use crate::entry::{Entry, What};
 use crate::plan::{LogPlan, WanderedCopies};
 use r4_base::{Block, BlockNo, Footer, Header, Memory, RECORD_PAIRS, TxHead};
 use r4_logfmt::{write_footer, write_head, write_header, write_record};
 use std::alloc::Global;
 use std::marker::Model;
-use std::sync::Arc;
 
 /// A wandered copy whose block is shared by the copy and its home.
 #[derive(Drop)]
 pub(crate) struct Shared {
     original: u64,
     copy: u64,
-    block: Arc<Block>,
+    what: What,
 }
 
 impl Model for Shared {
-    ghost use Rattle.std.specs.Arc.{arc_value};
+    ghost use Rattle.r4_wander.specs.Entries.{bytes_of};
     ghost use Rattle.r4_wander.specs.Seen.{Copy};
 
     ghost Value = { Copy };
 
-    ghost view = { λ s. record { original = s.original; copy = s.copy; block = arc_value s.block } };
+    ghost view = { λ s. record { original = s.original; copy = s.copy; block = bytes_of s.what } };
 }
 
 /// The pairs of the transaction, in the order of the copies.
@@ -197,11 +196,11 @@ pub(crate) fn share(alloc: Global, wandered: WanderedCopies) -> Result<Vec<Share
 {
     let mut shared = Vec::with_capacity(alloc, wandered.items.len())?;
     for copy in wandered.items {
-        see_whole(&copy.block);
+        see_whole(copy.block.block());
         shared.push(Shared {
             original: copy.original.0,
             copy: copy.copy.0,
-            block: Arc::new(alloc, copy.block)?,
+            what: What::of_home(alloc, copy.block)?,
         })?;
     }
     Ok(shared)
@@ -212,7 +211,7 @@ fn add_copies(made: &mut Vec<Entry>, shared: &[Shared]) -> Result<(), Memory>
     ensures { OnOk result (made.new.items ≡ made.old.items ++ map (λ w. (w.copy, w.block)) shared.now) }
 {
     for copy in shared {
-        made.push(Entry::of_shared(copy.copy, &copy.block)?)?;
+        made.push(Entry::of_shared(copy.copy, &copy.what)?)?;
     }
     Ok(())
 }
@@ -238,7 +237,7 @@ pub(crate) fn make_homes(alloc: Global, shared: &[Shared]) -> Result<Vec<Entry>,
 {
     let mut made = Vec::with_capacity(alloc, shared.len())?;
     for copy in shared {
-        made.push(Entry::of_shared(copy.original, &copy.block)?)?;
+        made.push(Entry::of_shared(copy.original, &copy.what)?)?;
     }
     Ok(made)
 }

@@ -2,7 +2,8 @@
 
 ghost use Rattle.std.specs.Prelude.{◌≡◌, map};
 
-use r4_base::{Block, BlockNo};
+use crate::home_block::HomeBlock;
+use r4_base::BlockNo;
 use r4_cell::Cell;
 use std::marker::Model;
 use std::sync::Arc;
@@ -28,15 +29,16 @@ impl Model for PlacedCell {
 pub struct WanderedCopy {
     pub original: BlockNo,
     pub copy: BlockNo,
-    pub block: Block,
+    pub block: HomeBlock,
 }
 
 impl Model for WanderedCopy {
+    ghost use Rattle.r4_wander.specs.Entries.{block_of};
     ghost use Rattle.r4_wander.specs.Seen.{Copy};
 
     ghost Value = { Copy };
 
-    ghost view = { λ w. record { original = w.original.0; copy = w.copy.0; block = w.block } };
+    ghost view = { λ w. record { original = w.original.0; copy = w.copy.0; block = block_of w.block } };
 }
 
 /// Blocks in their order.

@@ -2,7 +2,14 @@ use Rattle.std.proofs.Common.{◌∙◌, sym}
 use Rattle.r4_outside.proofs.Moments.{goes_both}
 use Rattle.r4_list.proofs.Listings.{image_opened, same_super, settled_by}
 use Rattle.r4_check.proofs.Answered.{log_checks, open_checks, same_walk, stop_checks, walk_checks}
+use Rattle.r4_open.proofs.Openings.{log_names_head}
 use Rattle.r4_check.proofs.tree.check.Goals as goal
+
+pub open_image-requires-clause-names : goal.open_image-requires-clause-names
+open_image-requires-clause-names g c = λ κs lives.
+    let d = g.D.Device.state in
+    let read = c.in-Ok.ensures in
+    log_names_head (d c.args.dev.now) (d c.blocks-2.new.self) c.in-Ok.log (goes_both _ _ _ read.idles.goes c.blocks-2.ensures.goes) (c.blocks-2.ensures.seen ∙ read.idles.seen) read.reads.1
 
 pub returns-in-Err-clause-checks : goal.returns-in-Err-clause-checks
 returns-in-Err-clause-checks g c = log_checks _ _ _ c.in-Err.fault c.log_fault.result c.log_fault.ensures c.in-Err.ensures.reads

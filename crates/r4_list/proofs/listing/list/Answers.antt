@@ -13,7 +13,14 @@ use Rattle.r4_search.specs.Pool.{LeavesDevice}
 use Rattle.r4_list.specs.Lists.{Answers, IsListFault, PrintsText}
 use Rattle.r4_list.proofs.Stages.{prints_same}
 use Rattle.r4_list.proofs.Listings.{SettlesBy, image_opened, lent_answers, log_answer, log_text, open_answer, open_text, opening_stays, same_super, settled_by, stays_both}
+use Rattle.r4_open.proofs.Openings.{log_names_head}
 use Rattle.r4_list.proofs.listing.list.Goals as goal
+
+pub open_image-requires-clause-names : goal.open_image-requires-clause-names
+open_image-requires-clause-names g c = λ κs lives.
+    let d = g.D.Device.state in
+    let read = c.in-Ok.ensures in
+    log_names_head (d c.args.dev.now) (d c.blocks-2.new.self) c.in-Ok.log (goes_both _ _ _ read.idles.goes c.blocks-2.ensures.goes) (c.blocks-2.ensures.seen ∙ read.idles.seen) read.reads.1
 
 pub returns-in-Err-clause-answers : goal.returns-in-Err-clause-answers
 returns-in-Err-clause-answers g c =

@@ -4,7 +4,7 @@ use Rattle.std.specs.Option.{IfSome}
 use Rattle.std.proofs.lemmas.List.{length-map}
 use Rattle.r4_base.specs.Key.{rank}
 use Rattle.r4_put_tasks.specs.r4_build.r4_measure.r4_cell.Seen.{CellSeen}
-use Rattle.r4_row_gather.specs.Gathering.{IsGathered}
+use Rattle.r4_row_gather.specs.Gathering.{IsBroughtBelow}
 use Rattle.r4_made.proofs.gathering.gathered.Goals as goal
 
 pub returns : goal.returns
@@ -22,8 +22,8 @@ returns c =
       gathered = record {
         from = from;
         to = to;
-        are = subst (λ (cells : List CellSeen). IsGathered cells from to c.in-Some.gathered) c.as_slice-cells.ensures
-            (subst (λ o. IfSome o (IsGathered (map (λ x. arc_value x) here) from to)) c.in-Some.is c.in_ok-gathered.ensures);
+        are = subst (λ (cells : List CellSeen). IsBroughtBelow cells from to c.in-Some.gathered) c.as_slice-cells.ensures
+            (subst (λ o. IfSome o (IsBroughtBelow (map (λ x. arc_value x) here) from to)) c.in-Some.is c.in_ok-gathered.ensures);
         few = omega (arith, few, all, left, one, two);
       };
     }

@@ -2,12 +2,22 @@ use Rattle.std.proofs.Common.{ℕ, ◌+◌, ◌-◌, ◌<◌, ◌++◌, ◌∷�
 use Rattle.std.proofs.lemmas.List.{length-append}
 use Rattle.r4_atoms.specs.Owned.{label_of}
 use Rattle.r4_atoms.specs.Atoms.{AtomsSeen, new_row, new_txn, new_atom, TxnSeen}
-use Rattle.r4_atoms.proofs.AtomLaws.{length-seen, owner_raw, raw_more, txns-push}
-use Rattle.r4_atoms.proofs.KeptLaws.{kept_more}
+use Rattle.r4_atoms.proofs.AtomLaws.{length-scripts_seen, length-seen, owner_raw, raw_more, txns-push}
+use Rattle.r4_atoms.proofs.KeptLaws.{kept_more, scripts_push}
 use Rattle.r4_atoms.proofs.atoms.Atoms.add.Goals as goal
 
 pub push-requires-clause-few : goal.push-requires-clause-few
 push-requires-clause-few c = let e = length-seen _ _ _ _ _ _ _ c.self.invariant.0 _ c.self.view_is in omega (arith, c.requires.few)
+
+pub push-requires-2-clause-room : goal.push-requires-2-clause-room
+push-requires-2-clause-room c =
+    let room = ap (λ (a : AtomsSeen). a.txn_spare) c.self.view_is in
+    omega (arith, c.requires.room, c.self.invariant.2.room)
+
+pub push-requires-2-clause-few : goal.push-requires-2-clause-few
+push-requires-2-clause-few c =
+    let e = length-scripts_seen _ _ _ _ _ _ _ c.self.invariant.0 _ c.self.view_is c.self.inside.scripts.scripts c.self.invariant.2.same in
+    omega (arith, c.requires.few)
 
 pub overflow_cast-result : goal.overflow_cast-result
 overflow_cast-result c =
@@ -30,6 +40,10 @@ invariant_of-self c =
       record {
         rows_fit = omega (arith, c.requires.room, c.push_row.ensures.capacity, c.self.invariant.1.rows_fit);
         states_fit = omega (arith, c.requires.room, c.push_state.ensures.capacity, c.self.invariant.1.states_fit);
+      },
+      record {
+        same = c.push-2.ensures.scripts ∙ ap (λ (ts : List ℕ). ts ++ c.args.script.0 ∷ []) c.self.invariant.2.same ∙ sym (scripts_push i.rows.items c.args.script);
+        room = omega (arith, c.push-2.ensures.spare, c.self.invariant.2.room);
       },
     )
 

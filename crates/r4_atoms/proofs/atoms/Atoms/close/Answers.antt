@@ -1,7 +1,7 @@
 use Rattle.std.proofs.Common.{◌-◌, ◌∙◌, sym, ap, false, List, arith, get_or, set}
 use Rattle.r4_atoms.specs.Atoms.{AtomsSeen, txn_of, TxnSeen}
 use Rattle.r4_atoms.proofs.AtomLaws.{begun_within, txn_is}
-use Rattle.r4_atoms.proofs.KeptLaws.{kept_ended, length-ended, some_open, txns_ended}
+use Rattle.r4_atoms.proofs.KeptLaws.{kept_ended, length-ended, scripts_ended, some_open, txns_ended}
 use Rattle.r4_atoms.proofs.atoms.Atoms.close.Goals as goal
 
 pub name-name-requires : goal.name-name-requires
@@ -28,6 +28,7 @@ invariant_of-self c =
     rw (c.end_row.ensures.items, c.end_row.ensures.capacity, c.name-name.ensures) (
       kept_ended i.forest.names i.rows.items i.states.items i.owners.entries i.low c.self.invariant.0 (c.args.txn.0 - 1) within was,
       record { rows_fit = rw long c.self.invariant.1.rows_fit; states_fit = c.self.invariant.1.states_fit },
+      record { same = c.self.invariant.2.same ∙ sym (scripts_ended i.rows.items (c.args.txn.0 - 1) (get_or i.forest.names (c.args.txn.0 - 1) 0)); room = c.self.invariant.2.room },
     )
 
 pub returns : goal.returns

@@ -5,7 +5,7 @@ use Rattle.r4_atoms.specs.Names.{renamed}
 use Rattle.r4_atoms.specs.Owned.{label_of}
 use Rattle.r4_atoms.specs.Atoms.{AtomsSeen, joined, renamed_txn, state_at, txns_of}
 use Rattle.r4_atoms.proofs.AtomLaws.{begun_within, own_name, owner_raw, raw_joined, raw_owner, unsealed_at}
-use Rattle.r4_atoms.proofs.KeptLaws.{cleaned_joined, kept_joined, length-joined, length-joined_rows, sum_fits, txns_joined}
+use Rattle.r4_atoms.proofs.KeptLaws.{scripts_joined, cleaned_joined, kept_joined, length-joined, length-joined_rows, sum_fits, txns_joined}
 use Rattle.r4_atoms.proofs.atoms.Atoms.join.Goals as goal
 
 pub join-requires-clause-within : goal.join-requires-clause-within
@@ -137,6 +137,7 @@ invariant_of-self c =
     rw (c.join_rows.ensures.items, c.join_rows.ensures.capacity, c.join_states.ensures.items, c.join_states.ensures.capacity, c.join.ensures.names, c.join.ensures.spare) (
       kept_joined i.forest.names i.rows.items i.states.items i.owners.entries i.low k (c.args.kept.0 - 1) (c.args.gone.0 - 1) less two own_to own_from open_to open_from,
       record { rows_fit = rw long_rows c.self.invariant.1.rows_fit; states_fit = rw long_states c.self.invariant.1.states_fit },
+      record { same = c.self.invariant.2.same ∙ sym (scripts_joined i.rows.items (c.args.kept.0 - 1) (c.args.gone.0 - 1) (λ e. absurd (omega arith))); room = c.self.invariant.2.room },
     )
 
 pub returns-clause-txns : goal.returns-clause-txns

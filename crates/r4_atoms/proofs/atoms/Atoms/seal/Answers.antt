@@ -30,4 +30,5 @@ invariant_of-self c =
     let st : AtomState = record { sealed = true; committed = c.index_mut.result.now.committed; cleaned = c.index_mut.result.now.cleaned; account = c.index_mut.result.now.account } in (
       kept_sealed i.forest.names i.rows.items i.states.items i.owners.entries i.low k (c.args.atom.0 - 1) within none st refl (ap (λ (x : AtomState). x.committed) read),
       record { rows_fit = c.self.invariant.1.rows_fit; states_fit = rw (length-set i.states.items (c.args.atom.0 - 1) st) c.self.invariant.1.states_fit },
+      c.self.invariant.2,
     )

@@ -1,7 +1,7 @@
 use Rattle.std.proofs.Common.{◌≡◌, length, map, take}
 use Rattle.r4_wander.specs.Seen.{Copy}
 use Rattle.r4_base.specs.declared.things.BlockNo.{BlockNo}
-use Rattle.r4_commit.proofs.holding.lay_out.Given as goal
+use Rattle.r4_commit.proofs.log_blocks.lay_out.Given as goal
 
 abbrev pub invariant-loop-home : goal.invariant-loop-home
 invariant-loop-home l = record {
