@@ -1,12 +1,12 @@
 -- What comes in the place of the pointers to leaves: an extent between pointers to what stays of them.
 use Rattle.std.proofs.Common.{map, ◌≡◌, ◌↔◌, ◌⊎◌, ℕ, ◌+◌, ◌^◌, ◌<◌, ◌≤◌, Bool, List, []}
 use Rattle.std.proofs.Common.{◌∷◌, ◌++◌, length, refl, sym, ap, subst, ◌∙◌, arith, eq-eqb}
-use Rattle.std.specs.Prelude.{Contains, Option, None, Some, if◌then◌else◌, option_map}
+use Rattle.std.specs.Prelude.{Contains, Option, None, Some, false, true, ◌==◌, if◌then◌else◌, option_map}
 use Rattle.std.proofs.lemmas.List.{append-nil, length-append}
-use Rattle.r4_base.specs.Key.{IsKey, key_of_rank, rank}
+use Rattle.r4_base.specs.Key.{IsKey, key_of_rank, offset_of, rank}
 use Rattle.r4_base.specs.Tree.{Name}
 use Rattle.r4_base.specs.declared.key.Key.{Key}
-use Rattle.r4_build.specs.r4_branch.Pieces.{AreTwigPieces, Follow, names_of, next_of, part_names, part_units, units_of}
+use Rattle.r4_build.specs.r4_branch.Pieces.{AreTwigPieces, Follow, IsSoundPart, names_of, next_of, part_names, part_units, units_of}
 use Rattle.r4_build.specs.r4_branch.declared.piece.TwigPiece.{TwigPiece}
 use Rattle.r4_build.proofs.r4_branch.ItemPieces.{units_append}
 use Rattle.r4_extent_build.specs.r4_cell.Seen.{CellSeen, node_of}
@@ -30,7 +30,7 @@ use Rattle.r4_build.specs.r4_path.TwigPieces.{twig_pieces}
 use Rattle.r4_build.proofs.r4_path.Rising.{hi_is}
 use Rattle.r4_build.specs.r4_reach.Touched.{Body, first_byte}
 use Rattle.r4_extent_turn.specs.Turning.{AreKept, IsTurnFor, IsTurningBody, Kept, Turn, blocks_turned}
-use Rattle.r4_extent_turn.specs.Turning.{last_of, left_pointer, leaves_of, numbered, pieces_with, told_extent, with_id}
+use Rattle.r4_extent_turn.specs.Turning.{last_of, left_pointer, leaves_of, numbered, pieces_with, right_number, told_extent, with_id}
 use Rattle.r4_extent_turn.proofs.Bodies.{extent, extent_follow, extent_names, extent_next, extent_units}
 
 module _ (b : Body) (x : Turn) (c : IsTurnFor b x) where
@@ -94,47 +94,51 @@ module _ (b : Body) (x : Turn) (c : IsTurnFor b x) where
     left_at : (l : CellSeen) → l.lo ≡ x.leaf.lo → rank (key_of_rank (rank l.lo)) ≡ rank x.leaf.lo
     left_at l same = ap rank (left_key l same) ∙ p.key
 
-    module _ (m : ℕ) where
-      abbrev pub lefts : List TwigPiece
-      lefts = left_pointer (option_map (with_id m) s.left)
+    -- its number may be named, since the leaf's own one was
+    left_sound : (l : CellSeen) → l.id ≡ x.leaf.id → names_block true (2 ^ 64) (Some l.id) ≡ true
+    left_sound l same = subst (λ (i : ℕ). names_block true (2 ^ 64) (Some i) ≡ true) (sym same)
+        (subst (IsSoundPart (offset_of p.piece.key)) p.part parts.1.1.1)
 
-      pub lefts_follow : 2 ^ 63 ≤ m → Follow (rank x.leaf.lo) (first_byte b) lefts
-      lefts_follow high = by_left s.left k.left
-        where
-          by_left : (o : Option CellSeen) → HasLeft x.leaf k.from o → Follow (rank x.leaf.lo) (first_byte b) (left_pointer (option_map (with_id m) o))
-          by_left None left = c.around.low
-          by_left (Some l) left =
-              let at = left_at l left.1.from in
-              let lt = left.0 in
-              let is = k.from_is in
-              (omega (arith, at), (subst IsKey (sym (left_key l left.1.from)) piece_key, may_be_named m high), omega (arith, at, lt, is))
+    abbrev pub lefts : List TwigPiece
+    lefts = left_pointer s.left
 
-      -- with an extent behind it, that begins with the first of the blocks
-      pub lefts_next : (z : ℕ) → z ≡ first_byte b → next_of z lefts ≡ rank x.leaf.lo
-      lefts_next z same = by_left s.left k.left
-        where
-          by_left : (o : Option CellSeen) → HasLeft x.leaf k.from o → next_of z (left_pointer (option_map (with_id m) o)) ≡ rank x.leaf.lo
-          by_left None left = same ∙ (sym k.from_is ∙ left)
-          by_left (Some l) left = left_at l left.1.from
+    pub lefts_follow : Follow (rank x.leaf.lo) (first_byte b) lefts
+    lefts_follow = by_left s.left k.left
+      where
+        by_left : (o : Option CellSeen) → HasLeft x.leaf k.from o → Follow (rank x.leaf.lo) (first_byte b) (left_pointer o)
+        by_left None left = c.around.low
+        by_left (Some l) left =
+            let at = left_at l left.1.from in
+            let lt = left.0 in
+            let is = k.from_is in
+            (omega (arith, at), (subst IsKey (sym (left_key l left.1.from)) piece_key, left_sound l left.1.number), omega (arith, at, lt, is))
 
-      pub lefts_names : names_of (first_byte b) lefts ≡ map name_of (given_cells (option_map (with_id m) s.left))
-      unfolding names_of
-      lefts_names = by_left s.left k.left
-        where
-          by_left : (o : Option CellSeen) → HasLeft x.leaf k.from o → names_of (first_byte b) (left_pointer (option_map (with_id m) o)) ≡ map name_of (given_cells (option_map (with_id m) o))
-          by_left None left = refl
-          by_left (Some l) left =
-              let hi : first_byte b ≡ rank l.hi = sym k.from_is ∙ ap rank (sym left.1.to) in
-              let lo : rank (key_of_rank (rank l.lo)) ≡ rank l.lo = left_at l left.1.from ∙ ap rank (sym left.1.from) in
-              (λ i. record { id = m; level = sym left.1.level_is i; lo = lo i; hi = hi i } ∷ [])
+    -- with an extent behind it, that begins with the first of the blocks
+    pub lefts_next : (z : ℕ) → z ≡ first_byte b → next_of z lefts ≡ rank x.leaf.lo
+    lefts_next z same = by_left s.left k.left
+      where
+        by_left : (o : Option CellSeen) → HasLeft x.leaf k.from o → next_of z (left_pointer o) ≡ rank x.leaf.lo
+        by_left None left = same ∙ (sym k.from_is ∙ left)
+        by_left (Some l) left = left_at l left.1.from
 
-      pub lefts_units : units_of lefts ≡ []
-      unfolding units_of
-      lefts_units = by_left s.left
-        where
-          by_left : (o : Option CellSeen) → units_of (left_pointer (option_map (with_id m) o)) ≡ []
-          by_left None = refl
-          by_left (Some l) = refl
+    pub lefts_names : names_of (first_byte b) lefts ≡ map name_of (given_cells s.left)
+    unfolding names_of
+    lefts_names = by_left s.left k.left
+      where
+        by_left : (o : Option CellSeen) → HasLeft x.leaf k.from o → names_of (first_byte b) (left_pointer o) ≡ map name_of (given_cells o)
+        by_left None left = refl
+        by_left (Some l) left =
+            let hi : first_byte b ≡ rank l.hi = sym k.from_is ∙ ap rank (sym left.1.to) in
+            let lo : rank (key_of_rank (rank l.lo)) ≡ rank l.lo = left_at l left.1.from ∙ ap rank (sym left.1.from) in
+            (λ i. record { id = l.id; level = sym left.1.level_is i; lo = lo i; hi = hi i } ∷ [])
+
+    pub lefts_units : units_of lefts ≡ []
+    unfolding units_of
+    lefts_units = by_left s.left
+      where
+        by_left : (o : Option CellSeen) → units_of (left_pointer o) ≡ []
+        by_left None = refl
+        by_left (Some l) = refl
 
     -- ---- and that to what stays of the last one
 
@@ -175,7 +179,7 @@ module _ (b : Body) (x : Turn) (c : IsTurnFor b x) where
 
     module _ (first : Key) (g : IsTurningBody b first) (e : Edits) (n : ℕ) (high : 2 ^ 63 ≤ n) where
       abbrev pub new : Kept
-      new = numbered (n + blocks_turned b e) s
+      new = numbered x (n + blocks_turned b e) s
 
       abbrev pub comes : List TwigPiece
       comes = left_pointer new.left ++ (extent b first g e n high ++ pointer_to new.right)
@@ -186,24 +190,28 @@ module _ (b : Body) (x : Turn) (c : IsTurnFor b x) where
       pub qs_are : qs ≡ p.before ++ (comes ++ p.behind)
       qs_are = over comes
 
-      abbrev at_left : ℕ
-      at_left = n + blocks_turned b e
-
       abbrev at_right : ℕ
-      at_right = n + blocks_turned b e + length (given_cells s.left)
+      at_right = right_number x (n + blocks_turned b e)
+
+      high_right : 2 ^ 63 ≤ at_right
+      high_right = by_test (x.leaf.id == n + blocks_turned b e)
+        where
+          by_test : (t : Bool) → 2 ^ 63 ≤ (if t then n + blocks_turned b e + 1 else n + blocks_turned b e)
+          by_test true = omega (arith, high)
+          by_test false = omega (arith, high)
 
       comes_follow : Follow (rank x.leaf.lo) end comes
       comes_follow =
-          follow_join (rank x.leaf.lo) (first_byte b) end (lefts at_left) (extent b first g e n high ++ rights at_right) (lefts_follow at_left (omega (arith, high)))
-          (follow_join (first_byte b) (end_after b) end (extent b first g e n high) (rights at_right) (extent_follow b first g e n high) (rights_follow at_right (omega (arith, high))))
+          follow_join (rank x.leaf.lo) (first_byte b) end lefts (extent b first g e n high ++ rights at_right) lefts_follow
+          (follow_join (first_byte b) (end_after b) end (extent b first g e n high) (rights at_right) (extent_follow b first g e n high) (rights_follow at_right high_right))
 
       extent_first : (z : ℕ) → next_of z (extent b first g e n high ++ rights at_right) ≡ first_byte b
       extent_first z = next_join z (extent b first g e n high) (rights at_right) ∙ extent_next b first g e n high (next_of z (rights at_right))
 
       comes_first : (z : ℕ) → next_of z comes ≡ rank x.leaf.lo
       comes_first z =
-          next_join z (lefts at_left) (extent b first g e n high ++ rights at_right)
-          ∙ lefts_next at_left (next_of z (extent b first g e n high ++ rights at_right)) (extent_first z)
+          next_join z lefts (extent b first g e n high ++ rights at_right)
+          ∙ lefts_next (next_of z (extent b first g e n high ++ rights at_right)) (extent_first z)
 
       some_comes : 1 ≤ length comes
       some_comes = by_length comes (comes_first (rank x.leaf.lo + 1))
@@ -232,8 +240,8 @@ module _ (b : Body) (x : Turn) (c : IsTurnFor b x) where
 
       comes_units : units_of comes ≡ units_of (told_extent b e)
       comes_units =
-          units_append (lefts at_left) (extent b first g e n high ++ rights at_right)
-          ∙ ((λ i. lefts_units at_left i ++ units_append (extent b first g e n high) (rights at_right) i)
+          units_append lefts (extent b first g e n high ++ rights at_right)
+          ∙ ((λ i. lefts_units i ++ units_append (extent b first g e n high) (rights at_right) i)
           ∙ ((λ i. extent_units b first g e n high i ++ pointer_none (option_map (with_id at_right) s.right) i) ∙ append-nil (units_of (told_extent b e))))
 
       pub qs_units : units_of qs ≡ units_of p.before ++ (units_of (told_extent b e) ++ units_of p.behind)
@@ -251,9 +259,9 @@ module _ (b : Body) (x : Turn) (c : IsTurnFor b x) where
       comes_names : names_of (next_of (rank x.twig.hi) p.behind) comes ≡ come_names
       comes_names =
           ap (λ (z : ℕ). names_of z comes) p.next
-          ∙ (names_join end (lefts at_left) (extent b first g e n high ++ rights at_right)
-          ∙ ((λ i. names_of (extent_first end i) (lefts at_left) ++ names_join end (extent b first g e n high) (rights at_right) i)
-          ∙ (λ i. lefts_names at_left i ++ (extent_names b first g e n high (next_of end (rights at_right)) i ++ rights_names at_right i))))
+          ∙ (names_join end lefts (extent b first g e n high ++ rights at_right)
+          ∙ ((λ i. names_of (extent_first end i) lefts ++ names_join end (extent b first g e n high) (rights at_right) i)
+          ∙ (λ i. lefts_names i ++ (extent_names b first g e n high (next_of end (rights at_right)) i ++ rights_names at_right i))))
 
       pub qs_names : (m : Name) → Contains (names_of (rank x.twig.hi) qs) m ↔
           ((Contains (node_of x.twig).names m × (Contains (map name_of (leaves_of x)) m → ⊥)) ⊎ Contains come_names m)

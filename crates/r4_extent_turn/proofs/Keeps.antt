@@ -1,7 +1,7 @@
 -- What stays of leaves, under other numbers: leaves that may stand, with the units that it is to have.
-use Rattle.std.proofs.Common.{◌≡◌, ◌↔◌, ◌⊎◌, inl, inr, ℕ, ◌+◌, ◌<◌, ◌≤◌, Bool, true, false, List, [], ◌∷◌, ◌++◌, length, refl, sym, ap, subst, ◌∙◌, arith}
-use Rattle.std.specs.Prelude.{Contains, Option, None, Some, ◌==◌, nat_lt, option_map}
-use Rattle.std.proofs.lemmas.Bool.{cases_lt, lt-ltb, ltb-true}
+use Rattle.std.proofs.Common.{◌≡◌, ◌↔◌, ◌⊎◌, inl, inr, ℕ, ◌+◌, ◌<◌, ◌≤◌, Bool, true, false, List, [], ◌∷◌, ◌++◌, length, refl, sym, ap, subst, ◌∙◌, arith, eq-eqb}
+use Rattle.std.specs.Prelude.{Contains, Option, None, Some, ◌==◌, if◌then◌else◌, nat_lt, option_map}
+use Rattle.std.proofs.lemmas.Bool.{cases_lt, eqb-true, lt-ltb, ltb-true}
 use Rattle.std.proofs.lemmas.List.Elements.{Contains-append_cases, Contains-append_left, Contains-append_right}
 use Rattle.r4_base.specs.Key.{rank}
 use Rattle.r4_base.specs.Tree.{IsNode}
@@ -19,42 +19,87 @@ use Rattle.r4_extent_build.proofs.r4_extent_edit.TurnEffect.{KeepsFrom, keeps_fr
 use Rattle.r4_extent_build.proofs.r4_extent_edit.TurnPieces.{last_in}
 use Rattle.r4_build.specs.r4_leaf.Units.{LeafUnit}
 use Rattle.r4_build.specs.r4_patch.Effect.{Placed}
-use Rattle.r4_build.specs.r4_patch.Joining.{ids_of}
-use Rattle.r4_build.proofs.r4_patch.Members.{Distinct, cases, here, none}
-use Rattle.r4_build.specs.r4_path.Steps.{CountUp, Follow}
+use Rattle.r4_build.proofs.r4_patch.Members.{Distinct, cases, here, later, none}
+use Rattle.r4_build.specs.r4_path.Steps.{Follow}
 use Rattle.r4_build.proofs.r4_path.Rising.{InCell, follow_within, in_cell}
 use Rattle.r4_build.specs.r4_reach.Touched.{Body, first_byte}
 use Rattle.r4_build.proofs.r4_work.UnitMembers.{filtered, to_filtered}
-use Rattle.r4_extent_turn.specs.Turning.{AreKept, IsTurnFor, Kept, Turn, in_turned, kept_cells, last_of, leaves_of, numbered, with_id}
+use Rattle.r4_extent_turn.specs.Turning.{AreKept, IsTurnFor, Kept, Turn, in_turned, kept_cells, last_of, leaves_of, numbered, right_number, with_id}
 use Rattle.r4_extent_turn.proofs.Comes.{right_low}
 
--- ---- one of the numbers after the other
+-- ---- their numbers
 
-abbrev AreNumbered : (m : ℕ) → (l o : Option CellSeen) → Type 0
-AreNumbered m l o =
-    let cs = given_cells (option_map (with_id m) l) ++ given_cells (option_map (with_id (m + length (given_cells l))) o) in
-    Distinct cs × (CountUp m (ids_of cs) × (length cs ≡ length (given_cells l ++ given_cells o)))
+pub other_number : (x : Turn) (m : ℕ) → right_number x m ≡ x.leaf.id → ⊥
+other_number x m = by_test (x.leaf.id == m) refl
+  where
+    by_test : (t : Bool) → (x.leaf.id == m) ≡ t → (if t then m + 1 else m) ≡ x.leaf.id → ⊥
+    by_test true is same = let e = eqb-true x.leaf.id m is in omega (arith, e, same)
+    by_test false is same = let bad : true ≡ false = sym (eq-eqb x.leaf.id m (sym same)) ∙ is in cc
 
-pub numbers_are : (m : ℕ) (s : Kept) → Distinct (kept_cells (numbered m s)) × (CountUp m (ids_of (kept_cells (numbered m s))) × (length (kept_cells (numbered m s)) ≡ length (kept_cells s)))
-numbers_are m s = by_both s.left s.right
+pub number_within : (x : Turn) (m : ℕ) → (m ≤ right_number x m) × (right_number x m < m + 2)
+number_within x m = by_test (x.leaf.id == m)
+  where
+    by_test : (t : Bool) → (m ≤ (if t then m + 1 else m)) × ((if t then m + 1 else m) < m + 2)
+    by_test true = (omega arith, omega arith)
+    by_test false = (omega arith, omega arith)
+
+pub number_taken : (x : Turn) (m : ℕ) → Contains (m ∷ (m + 1) ∷ []) (right_number x m)
+number_taken x m = by_test (x.leaf.id == m)
+  where
+    by_test : (t : Bool) → Contains (m ∷ (m + 1) ∷ []) (if t then m + 1 else m)
+    by_test true = later m (m + 1) ((m + 1) ∷ []) (here (m + 1) [])
+    by_test false = here m ((m + 1) ∷ [])
+
+pub few_kept : (s : Kept) → length (kept_cells s) ≤ 2
+few_kept s = by_both s.left s.right
+  where
+    by_both : (l o : Option CellSeen) → length (given_cells l ++ given_cells o) ≤ 2
+    by_both None None = omega arith
+    by_both None (Some c) = omega arith
+    by_both (Some l) None = omega arith
+    by_both (Some l) (Some c) = omega arith
+
+-- The first leaf's rest has its number, and the last one's another.
+pub record AreNumbered (x : Turn) (m : ℕ) (cells : List CellSeen) (count : ℕ) : Type 0 where
+  pub distinct : Distinct cells
+  pub each : (d : CellSeen) → Contains cells d → (d.id ≡ x.leaf.id) ⊎ (d.id ≡ right_number x m)
+  pub long : length cells ≡ count
+
+pub numbers_are : (x : Turn) (from : Key) (m : ℕ) (s : Kept) → HasLeft x.leaf from s.left → AreNumbered x m (kept_cells (numbered x m s)) (length (kept_cells s))
+numbers_are x from m s left_is = by_both s.left s.right left_is
   where
     at_most : (c : CellSeen) → Distinct (c ∷ [])
     at_most c = (λ y at. absurd (none y at), tt)
 
-    by_both : (l o : Option CellSeen) → AreNumbered m l o
-    by_both None None = (tt, (tt, refl))
-    by_both None (Some c) = (at_most (with_id (m + 0) c), ((let z : m + 0 ≡ m = omega arith in z, tt), refl))
-    by_both (Some l) None = (at_most (with_id m l), ((refl, tt), refl))
-    by_both (Some l) (Some c) = (
-      (
-        λ y at same. elim (cases (with_id (m + 1) c) y [] at) [
-          | inl is ↦ let id : y.id ≡ m + 1 = ap (λ (z : CellSeen). z.id) is in omega (arith, id, same)
-          | inr nothing ↦ none y nothing
-        ],
-        at_most (with_id (m + 1) c),
-      ),
-      ((refl, (refl, tt)), refl),
-    )
+    of_right : (c d : CellSeen) → Contains (with_id (right_number x m) c ∷ []) d → d.id ≡ right_number x m
+    of_right c d at = elim (cases (with_id (right_number x m) c) d [] at) [
+      | inl is ↦ ap (λ (z : CellSeen). z.id) is
+      | inr nothing ↦ absurd (none d nothing)
+    ]
+
+    by_both : (l o : Option CellSeen) → HasLeft x.leaf from l
+        → AreNumbered x m (given_cells l ++ given_cells (option_map (with_id (right_number x m)) o)) (length (given_cells l ++ given_cells o))
+    by_both None None h = record { distinct = tt; each = λ d at. absurd (none d at); long = refl }
+    by_both None (Some c) h = record { distinct = at_most (with_id (right_number x m) c); each = λ d at. inr (of_right c d at); long = refl }
+    by_both (Some l) None h = record {
+      distinct = at_most l;
+      each = λ d at. elim (cases l d [] at) [
+        | inl is ↦ inl (ap (λ (z : CellSeen). z.id) is ∙ h.1.number)
+        | inr nothing ↦ absurd (none d nothing)
+      ];
+      long = refl;
+    }
+    by_both (Some l) (Some c) h = record {
+      distinct = (
+        λ y at same. let id = of_right c y at in let n = h.1.number in other_number x m (omega (arith, id, n, same)),
+        at_most (with_id (right_number x m) c),
+      );
+      each = λ d at. elim (cases l d (with_id (right_number x m) c ∷ []) at) [
+        | inl is ↦ inl (ap (λ (z : CellSeen). z.id) is ∙ h.1.number)
+        | inr more ↦ inr (of_right c d more)
+      ];
+      long = refl;
+    }
 
 -- what stays of the last leaf under another number
 right_under : (leaf : CellSeen) (key : Key) (i m : ℕ) (o : Option CellSeen) → HasRight leaf key i o → HasRight leaf key m (option_map (with_id m) o)
@@ -102,9 +147,9 @@ leaf_level b x c d at = (follow_within 1 (rank x.leaf.lo) (rank (last_of x).hi) 
 module _ (b : Body) (x : Turn) (c : IsTurnFor b x) (s : Kept) (k : AreKept b x s) where
   -- ---- they may stand
 
-  left_node : (m : ℕ) (o : Option CellSeen) → HasLeft x.leaf k.from o → (d : CellSeen) → Contains (given_cells (option_map (with_id m) o)) d → IsNode (node_of d) × (d.level ≡ 1)
-  left_node m None h d at = absurd (none d at)
-  left_node m (Some l) h d at = elim (cases (with_id m l) d [] at) [
+  left_node : (o : Option CellSeen) → HasLeft x.leaf k.from o → (d : CellSeen) → Contains (given_cells o) d → IsNode (node_of d) × (d.level ≡ 1)
+  left_node None h d at = absurd (none d at)
+  left_node (Some l) h d at = elim (cases l d [] at) [
     | inl same ↦
         let lo = ap rank h.1.from in
         let hi = ap rank h.1.to in
@@ -128,10 +173,10 @@ module _ (b : Body) (x : Turn) (c : IsTurnFor b x) (s : Kept) (k : AreKept b x s
     | inr nothing ↦ absurd (none d nothing)
   ]
 
-  pub kept_node : (m : ℕ) (d : CellSeen) → Contains (kept_cells (numbered m s)) d → IsNode (node_of d) × (d.level ≡ 1)
-  kept_node m d at = elim (Contains-append_cases (given_cells (numbered m s).left) (given_cells (numbered m s).right) d at) [
-    | inl a ↦ left_node m s.left k.left d a
-    | inr a ↦ right_node (m + length (given_cells s.left)) s.right refl k.right d a
+  pub kept_node : (m : ℕ) (d : CellSeen) → Contains (kept_cells (numbered x m s)) d → IsNode (node_of d) × (d.level ≡ 1)
+  kept_node m d at = elim (Contains-append_cases (given_cells s.left) (given_cells (numbered x m s).right) d at) [
+    | inl a ↦ left_node s.left k.left d a
+    | inr a ↦ right_node (right_number x m) s.right refl k.right d a
   ]
 
   -- ---- their units
@@ -158,17 +203,17 @@ module _ (b : Body) (x : Turn) (c : IsTurnFor b x) (s : Kept) (k : AreKept b x s
       by_test t is ge low = let on = is_on (first_byte b) (end_after b) j ge low in let bad : true ≡ false = sym on ∙ off in cc
 
   module _ (m : ℕ) where
-    right_keeps : KeepsFrom (end_after b) (last_of x) (numbered m s).right
+    right_keeps : KeepsFrom (end_after b) (last_of x) (numbered x m s).right
     right_keeps =
         let is = k.to_is in
-        keeps_from k.to (end_after b) (last_of x) (m + length (given_cells s.left)) (numbered m s).right
-        (right_under (last_of x) k.to k.right_id (m + length (given_cells s.left)) s.right k.right) (leaf_level b x c (last_of x) (last_in x.leaf x.more))
+        keeps_from k.to (end_after b) (last_of x) (right_number x m) (numbered x m s).right
+        (right_under (last_of x) k.to k.right_id (right_number x m) s.right k.right) (leaf_level b x c (last_of x) (last_in x.leaf x.more))
         (λ j v at. (λ a. omega (arith, a, is), λ a. omega (arith, a, is)))
 
     from_left : (o : Option CellSeen) → HasLeft x.leaf k.from o → (j : ℕ) (u : Placed Value)
-        → IsPlacedIn (given_cells (option_map (with_id m) o)) j u → IsPlacedIn (leaves_of x) j u × (in_turned b j ≡ false)
+        → IsPlacedIn (given_cells o) j u → IsPlacedIn (leaves_of x) j u × (in_turned b j ≡ false)
     from_left None h j u (d, at, has, kind) = absurd (none d at)
-    from_left (Some y) h j u (d, at, has, kind) = elim (cases (with_id m y) d [] at) [
+    from_left (Some y) h j u (d, at, has, kind) = elim (cases y d [] at) [
       | inr nothing ↦ absurd (none d nothing)
       | inl same ↦
           let units = subst (λ us. Contains us (j, u.0)) (ap (λ (z : CellSeen). (node_of z).units) same ∙ h.1.units) has in
@@ -181,7 +226,7 @@ module _ (b : Body) (x : Turn) (c : IsTurnFor b x) (s : Kept) (k : AreKept b x s
           )
     ]
 
-    from_right : (j : ℕ) (u : Placed Value) → IsPlacedIn (given_cells (numbered m s).right) j u → IsPlacedIn (leaves_of x) j u × (in_turned b j ≡ false)
+    from_right : (j : ℕ) (u : Placed Value) → IsPlacedIn (given_cells (numbered x m s).right) j u → IsPlacedIn (leaves_of x) j u × (in_turned b j ≡ false)
     from_right j u h =
         let (low, le) = (right_keeps j u).0 h in
         let (d, at, has, kind) = low in
@@ -192,7 +237,7 @@ module _ (b : Body) (x : Turn) (c : IsTurnFor b x) (s : Kept) (k : AreKept b x s
 
     to_left : (o : Option CellSeen) → HasLeft x.leaf k.from o → (d : CellSeen) (j : ℕ) (u : Placed Value)
         → Contains (leaves_of x) d → Contains (node_of d).units (j, u.0) → (d.level == 1) ≡ u.1 → j < first_byte b
-        → IsPlacedIn (given_cells (option_map (with_id m) o)) j u
+        → IsPlacedIn (given_cells o) j u
     to_left o h d j u at has kind lt = elim (cases x.leaf d x.more at) [
       | inr more_at ↦
           let w = follow_within 1 (rank x.leaf.hi) (rank (last_of x).hi) x.more d c.beside.3 more_at in
@@ -204,17 +249,17 @@ module _ (b : Body) (x : Turn) (c : IsTurnFor b x) (s : Kept) (k : AreKept b x s
     ]
       where
         by_left : (o : Option CellSeen) → HasLeft x.leaf k.from o → Contains (node_of x.leaf).units (j, u.0)
-            → IsPlacedIn (given_cells (option_map (with_id m) o)) j u
+            → IsPlacedIn (given_cells o) j u
         by_left None h mine = let i = inside x.leaf j u.0 (here x.leaf x.more) mine in let is = k.from_is in absurd (omega (arith, i, h, lt, is))
         by_left (Some y) h mine = (
-          with_id m y,
-          here (with_id m y) [],
+          y,
+          here y [],
           subst (λ us. Contains us (j, u.0)) (sym h.1.units) ((below_members (rank k.from) (node_of x.leaf).units (j, u.0)).1 (mine, let is = k.from_is in omega (arith, lt, is))),
           same_kind d y u.1 (leaf_level b x c d at) h.1.level_is kind,
         )
 
     to_right : (d : CellSeen) (j : ℕ) (u : Placed Value) → Contains (leaves_of x) d
-        → Contains (node_of d).units (j, u.0) → (d.level == 1) ≡ u.1 → end_after b ≤ j → IsPlacedIn (given_cells (numbered m s).right) j u
+        → Contains (node_of d).units (j, u.0) → (d.level == 1) ≡ u.1 → end_after b ≤ j → IsPlacedIn (given_cells (numbered x m s).right) j u
     to_right d j u at has kind le = elim (ends_before (rank x.leaf.lo) (rank (last_of x).hi) x.leaf x.more d c.beside at) [
       | inr before_last ↦
           let i = inside d j u.0 at has in
@@ -224,16 +269,16 @@ module _ (b : Body) (x : Turn) (c : IsTurnFor b x) (s : Kept) (k : AreKept b x s
     ]
 
     -- just what stood in the leaves, but for the keys of the blocks that come
-    pub kept_units : (j : ℕ) (u : Placed Value) → IsPlacedIn (kept_cells (numbered m s)) j u ↔ (IsPlacedIn (leaves_of x) j u × (in_turned b j ≡ false))
+    pub kept_units : (j : ℕ) (u : Placed Value) → IsPlacedIn (kept_cells (numbered x m s)) j u ↔ (IsPlacedIn (leaves_of x) j u × (in_turned b j ≡ false))
     kept_units j u = (
-      λ (d, at, has, kind). elim (Contains-append_cases (given_cells (numbered m s).left) (given_cells (numbered m s).right) d at) [
+      λ (d, at, has, kind). elim (Contains-append_cases (given_cells s.left) (given_cells (numbered x m s).right) d at) [
         | inl a ↦ from_left s.left k.left j u (d, a, has, kind)
         | inr a ↦ from_right j u (d, a, has, kind)
       ],
       λ z. let (low, off) = z in let (d, at, has, kind) = low in elim (off_cases j off) [
         | inl lt ↦ let (y, in_y, has_y, kind_y) = to_left s.left k.left d j u at has kind lt in
-            (y, Contains-append_left (given_cells (numbered m s).left) (given_cells (numbered m s).right) y in_y, has_y, kind_y)
+            (y, Contains-append_left (given_cells s.left) (given_cells (numbered x m s).right) y in_y, has_y, kind_y)
         | inr le ↦ let (y, in_y, has_y, kind_y) = to_right d j u at has kind le in
-            (y, Contains-append_right (given_cells (numbered m s).left) (given_cells (numbered m s).right) y in_y, has_y, kind_y)
+            (y, Contains-append_right (given_cells s.left) (given_cells (numbered x m s).right) y in_y, has_y, kind_y)
       ],
     )

@@ -42,12 +42,12 @@ use Rattle.r4_build.proofs.r4_work.Paths.{ascends_from, lowest_from}
 use Rattle.r4_build.specs.r4_work.Working.{IsWorking, now_of, root_of, standing}
 use Rattle.r4_build.specs.r4_work.declared.working.WorkingSet.{WorkingSet}
 use Rattle.r4_extent_turn.specs.TurnedOut.{LeavesLeaves}
-use Rattle.r4_extent_turn.specs.Turning.{AreKept, Kept, Turn, blocks_turned, leaves_of, turning_turn}
+use Rattle.r4_extent_turn.specs.Turning.{AreKept, Kept, Turn, blocks_turned, kept_cells, leaves_of, turning_turn}
 use Rattle.r4_extent_turn.specs.TurningIn.{MayTurnOut, turns_to}
 use Rattle.r4_extent_turn.proofs.FewerLeft.{fewer_left}
-use Rattle.r4_extent_turn.proofs.Keeps.{kept_node, numbers_are}
-use Rattle.r4_extent_turn.proofs.ReadyTurn.{few_kept, ready as ready_turn, turn}
-use Rattle.r4_extent_turn.proofs.TurnOf.{long_ids, turn_of}
+use Rattle.r4_extent_turn.proofs.Keeps.{AreNumbered, kept_node, number_within, numbers_are}
+use Rattle.r4_extent_turn.proofs.ReadyTurn.{ready as ready_turn, turn}
+use Rattle.r4_extent_turn.proofs.TurnOf.{turn_of}
 
 long_names : (ns : List Name) → length (map (λ (n : Name). n.id) ns) ≡ length ns
 long_names [] = refl
@@ -127,7 +127,7 @@ module _ (b : Body) (first : Key) (ed : Edits) (t : Store Value) (r : Root) (x :
   ready = ready_turn b first ed t r x f w u may kp ks
 
   numbers : f.next + (e.blocks + (e.leaves + 64)) ≤ f.end
-  numbers = let n = may.numbers in let l = few_kept kp in omega (arith, n, l)
+  numbers = let n = may.numbers in omega (arith, n)
 
   module _ (after : Fresh) (v : WorkingSet) (made : IsTurned t r e f after w v) where
     turn_at : IsTurnOf (node_of c) e f.next
@@ -241,13 +241,18 @@ module _ (b : Body) (first : Key) (ed : Edits) (t : Store Value) (r : Root) (x :
     old_id j m = subst (λ cs. Contains (ids_of cs) j) (sym old_are) (subst (λ is. Contains is j) (sym (ids_append (leaves_of x) (made.twig ∷ upper)))
         (Contains-append_right (ids_of (leaves_of x)) (ids_of (made.twig ∷ upper)) j m))
 
-    kept_id : (j : ℕ) → Contains (ids_of y.below.new) j → (f.next ≤ j) × (j < f.next + (e.blocks + (e.leaves + 64)))
-    kept_id j m =
-        let n = numbers_are (f.next + blocks_turned b ed) kp in
-        let k = count_within (f.next + blocks_turned b ed) (ids_of y.below.new) j n.1.0 m in
-        let l = long_ids y.below.new in
-        let many = n.1.1 in
-        (omega (arith, k), omega (arith, k, l, many))
+    leaf_id : (j : ℕ) → Contains (ids_of (leaves_of x)) j → Contains (ids_of made.edit.old) j
+    leaf_id j m = subst (λ cs. Contains (ids_of cs) j) (sym old_are) (ids_left (leaves_of x) (made.twig ∷ upper) j m)
+
+    -- what stays of the leaves
+    kept_are : AreNumbered x (f.next + blocks_turned b ed) y.below.new (length (kept_cells kp))
+    kept_are = numbers_are x ks.from (f.next + blocks_turned b ed) kp ks.left
+
+    kept_id : (d : CellSeen) → Contains y.below.new d → Contains (ids_of (leaves_of x)) d.id ⊎ ((f.next ≤ d.id) × (d.id < f.next + (e.blocks + (e.leaves + 64))))
+    kept_id d at = elim (kept_are.each d at) [
+      | inl same ↦ inl (subst (Contains (ids_of (leaves_of x))) (sym same) (id_member (leaves_of x) x.leaf (here x.leaf x.more)))
+      | inr same ↦ let k = number_within x (f.next + blocks_turned b ed) in inr (omega (arith, k, same), omega (arith, k, same))
+    ]
 
     abbrev IsOldOrOwn : ℕ → Type 0
     IsOldOrOwn j = Contains (ids_of made.edit.old) j ⊎ ((f.next ≤ j) × (j < f.next + (e.blocks + (e.leaves + 64))))
@@ -259,7 +264,12 @@ module _ (b : Body) (first : Key) (ed : Edits) (t : Store Value) (r : Root) (x :
           let n = block_id z at in
           inr (omega (arith, n, same), omega (arith, n, same))
       | inl nodes ↦ elim (split_ids y.below.new ours j nodes) [
-        | inl kept_one ↦ inr (kept_id j kept_one)
+        | inl kept_one ↦
+            let (z, at, same) = of_id y.below.new j kept_one in
+            elim (kept_id z at) [
+              | inl leaf ↦ inl (leaf_id j (subst (Contains (ids_of (leaves_of x))) same leaf))
+              | inr own ↦ inr (omega (arith, own, same), omega (arith, own, same))
+            ]
         | inr node ↦ own_id j node
       ]
     ]
@@ -281,13 +291,13 @@ module _ (b : Body) (first : Key) (ed : Edits) (t : Store Value) (r : Root) (x :
     pub now_working : IsWorking t r (behind e f) v
     now_working = next_working t r f w u is quiet e c.id ready unplaced high numbers after v made
 
-    come_long : length (y.below.new ++ y.blocks) ≡ e.blocks + e.leaves
+    come_long : length (y.below.new ++ y.blocks) ≡ e.blocks + length (kept_cells kp)
     come_long =
         let n = long_cells y.blocks in
         let m = ap length turn_at.blocks.names in
         let k = turn_at.block_count in
         let a = length-append y.below.new y.blocks in
-        let l = (numbers_are (f.next + blocks_turned b ed) kp).1.1 in
+        let l = kept_are.long in
         omega (arith, n, m, k, a, l)
 
     own_low : 2 ^ 63 ≤ (own_of e f).next
@@ -306,7 +316,7 @@ module _ (b : Body) (first : Key) (ed : Edits) (t : Store Value) (r : Root) (x :
     }
 
     now_measured : (left : Budget) × IsMeasured t r (behind e f) v left × IsQuietBelow left
-        × (most_from left (root_of v r) (standing v) + length (leaves_of x) ≤ most_from u (root_of w r) (standing w) + (e.blocks + e.leaves))
+        × (most_from left (root_of v r) (standing v) + length (leaves_of x) ≤ most_from u (root_of w r) (standing w) + (e.blocks + length (kept_cells kp)))
     now_measured =
         let (left, budget, less, still, same, few, stays) = left_budget s root part is.seen (own_of e f) after own_working.free own_low own_high is.working.root_number u is.budget made.twig made.ups qs y made.edit grafts in
         let seen2 = graft_seen s root part is.seen (own_of e f) after own_working.free own_low own_high is.working.root_number u is.budget made.twig made.ups qs y made.edit grafts in
@@ -315,7 +325,7 @@ module _ (b : Body) (first : Key) (ed : Edits) (t : Store Value) (r : Root) (x :
           left,
           placed_measured t r (own_of e f) w u own_measured v (behind e f) made.edit made.change made.meets old_stands made.put now_working left budget seen2 height2 less,
           still,
-          fewer_left t r (own_of e f) w u own_measured v made.edit made.change made.meets old_stands made.put left less (length (leaves_of x)) (e.blocks + e.leaves) (omega (arith, few, n)),
+          fewer_left t r (own_of e f) w u own_measured v made.edit made.change made.meets old_stands made.put left less (length (leaves_of x)) (e.blocks + length (kept_cells kp)) (omega (arith, few, n)),
         )
 
     -- another leaf stands as before
@@ -397,8 +407,8 @@ module _ (b : Body) (first : Key) (ed : Edits) (t : Store Value) (r : Root) (x :
           few = few;
           leaves = other_leaf;
           kept = λ d at. (kept_stands d at, (kept_node b x (turn b first ed t r x f w u may) kp ks (f.next + blocks_turned b ed) d at).1);
-          taken = λ d at. let k = kept_id d.id (id_member y.below.new d at) in (k.0, omega (arith, k));
-          names = have_names y.below.new (numbers_are (f.next + blocks_turned b ed) kp).0;
+          taken = kept_id;
+          names = have_names y.below.new kept_are.distinct;
           stays = λ cells from low was. now_of_cells cells from low was;
         })
 

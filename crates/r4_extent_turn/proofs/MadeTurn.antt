@@ -1,7 +1,6 @@
 -- What is made for the turn of a twig of a body that comes to extents, as the calls tell it.
-use Rattle.std.proofs.Common.{◌≡◌, ℕ, ◌+◌, ◌*◌, ◌^◌, ◌<◌, ◌≤◌, inl, inr, true, List, [], ◌∷◌, ◌++◌, length, refl, sym, ap, subst, ◌∙◌, arith}
+use Rattle.std.proofs.Common.{◌≡◌, ℕ, ◌+◌, ◌*◌, ◌^◌, ◌<◌, ◌≤◌, inl, inr, true, List, [], ◌∷◌, ◌++◌, refl, sym, ap, subst, ◌∙◌, arith}
 use Rattle.std.specs.Prelude.{Contains, None, Option, Some, option_map}
-use Rattle.std.proofs.lemmas.List.{length-append}
 use Rattle.r4_base.specs.Key.{offset_of, rank}
 use Rattle.r4_base.specs.declared.key.Key.{Key}
 use Rattle.r4_build.specs.r4_branch.Pieces.{Follow, IsSound, part_end, piece_end}
@@ -22,8 +21,8 @@ use Rattle.r4_build.proofs.r4_patch.Members.{cases, none}
 use Rattle.r4_build.specs.r4_reach.Touched.{Body, first_byte}
 use Rattle.r4_extent_turn.specs.Gathering.{units_within}
 use Rattle.r4_extent_turn.specs.Keeping.{KeepsEnds}
-use Rattle.r4_extent_turn.specs.Turning.{AreKept, IsTurningBody, Kept, Turn, blocks_turned, kept_cells, last_of, left_pointer}
-use Rattle.r4_extent_turn.specs.Turning.{leaves_of, numbered, set_over, tails_of, told_extent, with_id}
+use Rattle.r4_extent_turn.specs.Turning.{AreKept, IsTurningBody, Kept, Turn, blocks_turned, last_of, left_pointer}
+use Rattle.r4_extent_turn.specs.Turning.{leaves_of, numbered, right_number, set_over, tails_of, told_extent, with_id}
 use Rattle.r4_extent_turn.specs.TurningIn.{IsMadeFor, numbers_to_turn}
 use Rattle.r4_extent_turn.proofs.Bodies.{count, fits, told_follow}
 use Rattle.r4_extent_turn.proofs.GivenLeaves.{near}
@@ -51,22 +50,18 @@ module _ (b : Body) (first : Key) (g : IsTurningBody b first) (e : Edits) where
   pub can_number : (ps : List TwigPiece) (f : Fresh) → ps ≡ told_extent b e → f.next + numbers_to_turn b e ≤ f.end → CanNumber [] ps f
   can_number ps f is enough = subst (λ qs. CanNumber [] qs f) (sym is) (record { numbers = omega (arith, enough); near = near_end })
 
--- ---- what stays under its numbers
+-- ---- what stays of the last leaf under its number
 
 same_id : (leaf : CellSeen) (key : Key) (i : ℕ) (o : Option CellSeen) → HasRight leaf key i o → o ≡ option_map (with_id i) o
 same_id leaf key i None h = refl
 same_id leaf key i (Some c) h = λ j. Some (record c { id = h.number j })
 
-long_under : (i : ℕ) (o : Option CellSeen) → length (given_cells (option_map (with_id i) o)) ≡ length (given_cells o)
-long_under i None = refl
-long_under i (Some c) = refl
-
 module _ (b : Body) (e : Edits) (x : Turn) (f f1 f2 : Fresh) (tails : Edits) (ps extent : List TwigPiece) (blocks : List CellSeen) (from to : Key) (left right : Option CellSeen)
     (from_is : rank from ≡ first_byte b) (to_is : rank to ≡ end_after b) (ps_is : ps ≡ told_extent b e)
     (tails_are : (k : ℕ) → byte_set tails k ≡ last_put (units_within (rank from) (rank to) (leaves_of x)) k)
-    (num : IsNumbered [] ps (set_over tails e) f f1 extent blocks) (keeps : KeepsEnds x.leaf x.more from to f1 f2 left right) where
+    (num : IsNumbered [] ps (set_over tails e) f f1 extent blocks) (keeps : KeepsEnds x from to f1 f2 left right) where
   abbrev s : Kept
-  s = record { left = keeps.left_is.part; right = right }
+  s = record { left = left; right = right }
 
   numbers : IsNumbered [] (told_extent b e) (set_over tails e) f f1 extent blocks
   numbers = subst (λ qs. IsNumbered [] qs (set_over tails e) f f1 extent blocks) ps_is num
@@ -74,15 +69,9 @@ module _ (b : Body) (e : Edits) (x : Turn) (f f1 f2 : Fresh) (tails : Edits) (ps
   next : f1.next ≡ f.next + blocks_turned b e
   next = ap (λ (h : Fresh). h.next) numbers.left
 
-  left_is : left ≡ (numbered (f.next + blocks_turned b e) s).left
-  left_is = keeps.left_is.is ∙ ap (λ (i : ℕ). option_map (with_id i) keeps.left_is.part) next
-
-  long_left : length (given_cells left) ≡ length (given_cells keeps.left_is.part)
-  long_left = ap (λ (o : Option CellSeen). length (given_cells o)) left_is ∙ long_under (f.next + blocks_turned b e) keeps.left_is.part
-
-  right_is : right ≡ (numbered (f.next + blocks_turned b e) s).right
-  right_is = same_id (last_of x) to (f1.next + length (given_cells left)) right keeps.right_is
-      ∙ ap (λ (i : ℕ). option_map (with_id i) right) (let n = next in let l = long_left in let same : f1.next + length (given_cells left) ≡ f.next + blocks_turned b e + length (given_cells keeps.left_is.part) = omega (arith, n, l) in same)
+  right_is : right ≡ (numbered x (f.next + blocks_turned b e) s).right
+  right_is = same_id (last_of x) to (right_number x f1.next) right keeps.right_is
+      ∙ ap (λ (n : ℕ). option_map (with_id (right_number x n)) right) next
 
   same_tails : (k : ℕ) → byte_set tails k ≡ byte_set (tails_of b x) k
   same_tails k = tails_are k ∙ ((λ i. last_put (units_within (from_is i) (to_is i) (leaves_of x)) k) ∙ sym (or_none (last_put (units_within (first_byte b) (end_after b) (leaves_of x)) k)))
@@ -91,10 +80,10 @@ module _ (b : Body) (e : Edits) (x : Turn) (f f1 f2 : Fresh) (tails : Edits) (ps
   kept_are = record {
     from = from;
     from_is = from_is;
-    left = keeps.left_is.left;
+    left = keeps.left_is;
     to = to;
     to_is = to_is;
-    right_id = f1.next + length (given_cells left);
+    right_id = right_number x f1.next;
     right = keeps.right_is;
   }
 
@@ -105,18 +94,16 @@ module _ (b : Body) (e : Edits) (x : Turn) (f f1 f2 : Fresh) (tails : Edits) (ps
   made_for pieces beside cells pieces_is beside_is cells_is = record {
     kept = s;
     are = kept_are;
-    pieces_are = pieces_is ∙ (λ i. pieces_over (rank x.leaf.lo) (to_is i) (left_pointer (left_is i) ++ (numbers.pieces i ++ pointer_to (right_is i))) x.twig);
+    pieces_are = pieces_is ∙ (λ i. pieces_over (rank x.leaf.lo) (to_is i) (left_pointer left ++ (numbers.pieces i ++ pointer_to (right_is i))) x.twig);
     beside_is = beside_is ∙ (λ i. record {
-      below = record { old = leaves_of x; new = given_cells (left_is i) ++ given_cells (right_is i) };
+      below = record { old = leaves_of x; new = given_cells left ++ given_cells (right_is i) };
       blocks = (numbers.cells ∙ same_cells tails (tails_of b x) e same_tails [] f.next (told_extent b e)) i;
     });
-    cells_are = cells_is ∙ (λ i. given_cells (left_is i) ++ given_cells (right_is i));
+    cells_are = cells_is ∙ (λ i. given_cells left ++ given_cells (right_is i));
     left =
         let n = next in
-        let l = long_left in
-        let a = length-append (given_cells keeps.left_is.part) (given_cells right) in
         let m = ap (λ (h : Fresh). h.next) keeps.number in
         let end : f2.end ≡ f.end = ap (λ (h : Fresh). h.end) keeps.number ∙ ap (λ (h : Fresh). h.end) numbers.left in
-        let at : f2.next ≡ f.next + (blocks_turned b e + length (kept_cells s)) = omega (arith, n, l, a, m) in
+        let at : f2.next ≡ f.next + (blocks_turned b e + 2) = omega (arith, n, m) in
         (λ i. record { next = at i; end = end i });
   }

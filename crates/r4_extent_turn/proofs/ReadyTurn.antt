@@ -1,6 +1,6 @@
 -- A standing twig of a body that comes to extents is ready for its turn, and has it.
-use Rattle.std.proofs.Common.{◌≡◌, ◌+◌, ◌-◌, ◌/◌, ◌<◌, ◌≤◌, [], ◌∷◌, ◌++◌, length, refl, sym, subst, ◌∙◌, arith}
-use Rattle.std.specs.Prelude.{Contains, None, Option, Some}
+use Rattle.std.proofs.Common.{◌≡◌, ◌+◌, ◌-◌, ◌/◌, ◌<◌, ◌≤◌, [], ◌∷◌, length, refl, sym, subst, ◌∙◌, arith}
+use Rattle.std.specs.Prelude.{Contains, Some}
 use Rattle.r4_base.specs.Key.{rank}
 use Rattle.r4_base.specs.Tree.{Root, Store}
 use Rattle.r4_base.specs.Value.{Value}
@@ -9,7 +9,6 @@ use Rattle.r4_build.specs.r4_branch.Pieces.{twig_bytes}
 use Rattle.r4_extent_build.specs.r4_cell.Seen.{CellSeen, node_of}
 use Rattle.r4_extent_build.specs.r4_cell.declared.change.Fresh.{Fresh}
 use Rattle.r4_content.specs.Edited.{Edits}
-use Rattle.r4_extent_build.specs.r4_edit.Extents.{given_cells}
 use Rattle.r4_extent_build.specs.r4_twig_turns.Turning.{AreReady, CanRegraftAll, IsReady, TurnAtMost, come_at_most, numbers_for}
 use Rattle.r4_extent_build.proofs.r4_twig_turns.TurnByTurn.{all_turns, few_stand}
 use Rattle.r4_extent_build.proofs.r4_extent_edit.TurnGraft.{distinct_leaves}
@@ -22,7 +21,7 @@ use Rattle.r4_build.specs.r4_reach.Touched.{Body}
 use Rattle.r4_build.specs.r4_work.Working.{IsWorking, now_of, root_of, standing}
 use Rattle.r4_build.specs.r4_work.declared.working.WorkingSet.{WorkingSet}
 use Rattle.r4_build.proofs.r4_work.InPlace.{now_part, standing_is}
-use Rattle.r4_extent_turn.specs.Turning.{AreKept, IsTurnFor, IsTurningBody, Kept, Turn, blocks_turned, kept_cells, last_of, leaves_of, told_pieces, turning_turn}
+use Rattle.r4_extent_turn.specs.Turning.{AreKept, IsTurnFor, IsTurningBody, Kept, Turn, blocks_turned, last_of, leaves_of, right_number, told_pieces, turning_turn}
 use Rattle.r4_extent_turn.specs.TurningIn.{CanTurnOut, IsTurnIn, MayTurnOut, StandsTurn, turns_to}
 use Rattle.r4_extent_turn.proofs.Room.{same_bytes}
 use Rattle.r4_extent_turn.proofs.TurnOf.{turn_of}
@@ -61,19 +60,10 @@ module _ (t : Store Value) (r : Root) (f : Fresh) (w : WorkingSet) (working : Is
     turn = λ n high fits. turn_of b x c s k first g e small n high;
     goes = λ n y at. stands.leaves y at;
     named = λ n y at. c.named y at;
-    come = λ n. let same = same_bytes b x c e s n (n + blocks_turned b e) (n + blocks_turned b e + length (given_cells s.left)) in subst (λ m. (m - 4068 + 1023) / 1024 ≤ u 2 x.twig.id) (sym same) few;
+    come = λ n. let same = same_bytes b x c e s n (right_number x (n + blocks_turned b e)) in subst (λ m. (m - 4068 + 1023) / 1024 ≤ u 2 x.twig.id) (sym same) few;
   }
 
 -- ---- in a measured set
-
-pub few_kept : (s : Kept) → length (kept_cells s) ≤ 2
-few_kept s = by_both s.left s.right
-  where
-    by_both : (l o : Option CellSeen) → length (given_cells l ++ given_cells o) ≤ 2
-    by_both None None = omega arith
-    by_both None (Some c) = omega arith
-    by_both (Some l) None = omega arith
-    by_both (Some l) (Some c) = omega arith
 
 module _ (b : Body) (first : Key) (e : Edits) (t : Store Value) (r : Root) (x : Turn) (f : Fresh) (w : WorkingSet) (u : Budget) (m : MayTurnOut b first e t r x f w u) where
   pub turn : IsTurnFor b x
@@ -87,7 +77,7 @@ module _ (b : Body) (first : Key) (e : Edits) (t : Store Value) (r : Root) (x : 
     all_ready = (ready, (λ j at. absurd (none j at)), tt)
 
     enough : f.next + numbers_for (turns_to b e x s) ≤ f.end
-    enough = let n = m.numbers in let l = few_kept s in omega (arith, n, l)
+    enough = let n = m.numbers in omega (arith, n)
 
     pub can_turn : CanRegraftAll t r (turns_to b e x s) f w
     can_turn = all_turns t r (turns_to b e x s) (x.twig.id ∷ []) f w u m.measured m.quiet all_ready m.unplaced.0 m.unplaced.1 enough

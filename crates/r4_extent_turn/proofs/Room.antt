@@ -29,12 +29,7 @@ same_join xs ys us vs f h d = (
   last_join d xs us ∙ (ap (λ (o : Option ℕ). last_end o us) (f d).1 ∙ ((h (last_end d ys)).1 ∙ sym (last_join d ys vs))),
 )
 
--- ---- pointers
-
-same_left : (m : ℕ) (o : Option CellSeen) → SameRoom (left_pointer (option_map (with_id m) o)) (left_pointer o)
-unfolding bytes_behind
-same_left m None d = (refl, refl)
-same_left m (Some c) d = (refl, refl)
+-- ---- a pointer
 
 same_right : (m : ℕ) (o : Option CellSeen) → SameRoom (pointer_to (option_map (with_id m) o)) (pointer_to o)
 unfolding bytes_behind
@@ -72,14 +67,14 @@ same_numbers n ps d = (numbers_bytes [] n d ps, numbers_last [] n d ps)
 
 -- ---- all of them
 
-module _ (b : Body) (x : Turn) (c : IsTurnFor b x) (e : Edits) (s : Kept) (n m r : ℕ) where
-  -- with an extent of other numbers, and pointers to cells of others
+module _ (b : Body) (x : Turn) (c : IsTurnFor b x) (e : Edits) (s : Kept) (n r : ℕ) where
+  -- with an extent of other numbers, and a pointer to a cell of another
   abbrev pub others : Kept
-  others = record { left = option_map (with_id m) s.left; right = option_map (with_id r) s.right }
+  others = record s { right = option_map (with_id r) s.right }
 
   pub same_bytes : twig_bytes (pieces_with b x (with_numbers [] n (told_extent b e)) others) ≡ twig_bytes (told_pieces b e x s)
   same_bytes =
-      let middle = same_join (left_pointer others.left) (left_pointer s.left) (with_numbers [] n (told_extent b e) ++ pointer_to others.right) (told_extent b e ++ pointer_to s.right) (same_left m s.left)
+      let middle = same_join (left_pointer others.left) (left_pointer s.left) (with_numbers [] n (told_extent b e) ++ pointer_to others.right) (told_extent b e ++ pointer_to s.right) (same_all (left_pointer s.left))
       (same_join (with_numbers [] n (told_extent b e)) (told_extent b e) (pointer_to others.right) (pointer_to s.right) (same_numbers n (told_extent b e)) (same_right r s.right)) in
       let all = same_join (p b x c).before (p b x c).before ((left_pointer others.left ++ (with_numbers [] n (told_extent b e) ++ pointer_to others.right)) ++ (p b x c).behind)
       ((left_pointer s.left ++ (told_extent b e ++ pointer_to s.right)) ++ (p b x c).behind) (same_all (p b x c).before)

@@ -62,7 +62,7 @@ module _ (b : Body) (x : Turn) (c : IsTurnFor b x) (s : Kept) (k : AreKept b x s
   blocks = cells_coming whole [] n (told_extent b e)
 
   abbrev come : List CellSeen
-  come = kept_cells (numbered (n + blocks_turned b e) s)
+  come = kept_cells (numbered x (n + blocks_turned b e) s)
 
   abbrev all : List TwigPiece
   all = qs b x c s k first g e n high

@@ -15,15 +15,15 @@ use Rattle.r4_extent_build.specs.r4_twig_turns.Turning.{IsTurnOf}
 use Rattle.r4_extent_build.proofs.GrowingTurns.{cells_whole}
 use Rattle.r4_extent_build.proofs.Numbers.{cells_named, names_count, names_off, names_on}
 use Rattle.r4_build.specs.r4_patch.Joining.{ids_of}
-use Rattle.r4_build.proofs.r4_patch.Members.{cases, have_names, none}
+use Rattle.r4_build.proofs.r4_patch.Members.{cases, have_names, here, none}
 use Rattle.r4_build.specs.r4_path.Steps.{IsNameOf, name_of}
 use Rattle.r4_build.proofs.r4_path.Grown.{map_names, names_map}
 use Rattle.r4_build.proofs.r4_path.Rising.{hi_is, id_member, lo_is}
 use Rattle.r4_build.specs.r4_reach.Touched.{Body}
-use Rattle.r4_extent_turn.specs.Turning.{AreKept, IsTurnFor, IsTurningBody, Kept, Turn, blocks_turned, kept_cells, leaves_of, numbered}
+use Rattle.r4_extent_turn.specs.Turning.{AreKept, IsTurnFor, IsTurningBody, Kept, Turn, blocks_turned, kept_cells, leaves_of, numbered, right_number}
 use Rattle.r4_extent_turn.specs.Turning.{set_over, tails_of, told_extent, told_pieces, turning_turn}
 use Rattle.r4_extent_turn.proofs.Comes.{come_names, new, qs, qs_names, qs_pieces}
-use Rattle.r4_extent_turn.proofs.Keeps.{kept_node, numbers_are}
+use Rattle.r4_extent_turn.proofs.Keeps.{few_kept, kept_node, number_taken, numbers_are}
 use Rattle.r4_extent_turn.proofs.Room.{same_bytes}
 
 names_data : (old : List TwigPiece) (n : ℕ) (ps : List TwigPiece) (m : Name) → Contains (names_coming old n ps) m → IsData m
@@ -38,17 +38,13 @@ names_data old n (p ∷ ps) m at = by_test (is_coming old p) refl (λ k h. names
       | inr more ↦ rest (n + 1) more
     ]
 
-pub long_ids : (cs : List CellSeen) → length (ids_of cs) ≡ length cs
-long_ids [] = refl
-long_ids (c ∷ cs) = let h = long_ids cs in omega (arith, h)
-
 module _ (b : Body) (x : Turn) (c : IsTurnFor b x) (s : Kept) (k : AreKept b x s) (first : Key) (g : IsTurningBody b first) (e : Edits)
     (small : twig_bytes (told_pieces b e x s) ≤ 16000) (n : ℕ) (high : 2 ^ 63 ≤ n) where
   abbrev all : List TwigPiece
   all = qs b x c s k first g e n high
 
   abbrev come : List CellSeen
-  come = kept_cells (numbered (n + blocks_turned b e) s)
+  come = kept_cells (numbered x (n + blocks_turned b e) s)
 
   abbrev data_names : List Name
   data_names = names_coming [] n (told_extent b e)
@@ -79,11 +75,11 @@ module _ (b : Body) (x : Turn) (c : IsTurnFor b x) (s : Kept) (k : AreKept b x s
 
   pub turn_of : IsTurnOf (node_of x.twig) (turning_turn b e x s) n
   turn_of =
-      let numbers = numbers_are (n + blocks_turned b e) s in
+      let numbers = numbers_are x k.from (n + blocks_turned b e) s k.left in
       let counts = names_count [] n (told_extent b e) in
       record {
         pieces = pieces;
-        bytes = let z = same_bytes b x c e s n (n + blocks_turned b e) (n + blocks_turned b e + length (given_cells s.left)) in omega (arith, z, small);
+        bytes = let z = same_bytes b x c e s n (right_number x (n + blocks_turned b e)) in omega (arith, z, small);
         data_names = data_names;
         blocks = record {
           names = cells_named [] (set_over (tails_of b x) e) n (told_extent b e);
@@ -110,10 +106,13 @@ module _ (b : Body) (x : Turn) (c : IsTurnFor b x) (s : Kept) (k : AreKept b x s
           | inr a ↦ let l = (cells_whole [] (set_over (tails_of b x) e) n (told_extent b e) d a).0 in omega (arith, l)
         ];
         old = c.once;
-        new = have_names come numbers.0;
-        mine = ids_of come;
-        each = λ d at. inr (id_member come d at);
-        few = let l = numbers.1.1 in omega (arith, l);
-        leaf_numbers = numbers.1.0;
-        leaf_count = let l = long_ids come in let m = numbers.1.1 in omega (arith, l, m);
+        new = have_names come numbers.distinct;
+        mine = (n + blocks_turned b e) ∷ (n + blocks_turned b e + 1) ∷ [];
+        each = λ d at. elim (numbers.each d at) [
+          | inl same ↦ inl (subst (Contains (ids_of (leaves_of x))) (sym same) (id_member (leaves_of x) x.leaf (here x.leaf x.more)))
+          | inr same ↦ inr (subst (Contains ((n + blocks_turned b e) ∷ (n + blocks_turned b e + 1) ∷ [])) (sym same) (number_taken x (n + blocks_turned b e)))
+        ];
+        few = let l = numbers.long in let f = few_kept s in omega (arith, l, f);
+        leaf_numbers = (refl, (refl, tt));
+        leaf_count = omega arith;
       }

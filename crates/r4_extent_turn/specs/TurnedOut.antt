@@ -1,6 +1,6 @@
 -- What the turn of a twig of a body that comes to extents leaves of a working set (docs/volume.md,
 -- "Bodies in extents").
-use Rattle.std.specs.Prelude.{◌≡◌, ◌+◌, ◌<◌, ◌≤◌, Contains, length}
+use Rattle.std.specs.Prelude.{◌≡◌, ◌⊎◌, ◌+◌, ◌<◌, ◌≤◌, Contains, length}
 use Rattle.r4_base.specs.Tree.{Root, Store}
 use Rattle.r4_base.specs.Value.{Value}
 use Rattle.r4_build.specs.Making.{StaysOf}
@@ -22,8 +22,8 @@ use Rattle.r4_extent_turn.specs.Turning.{turning_turn}
 -- The set after it is measured for the numbers that are left, and still nothing more comes below
 -- twigs. In the end there may be no more cells than before, without the leaves, which went, and
 -- with the blocks that came and what stays of the leaves. Each leaf that stood and has none of
--- their numbers stands, and so does what stays of them: leaves, each of a number that was taken, no
--- two of one. What was of some cells is still of them.
+-- their numbers stands, and so does what stays of them: leaves, each of a number that one of them
+-- had or that was taken, no two of one. What was of some cells is still of them.
 pub record LeavesLeaves (b : Body) (e : Edits) (u : Budget) (t : Store Value) (r : Root) (f : Fresh)
     (w now : WorkingSet) (x : Turn) (s : Kept) : Type 0 where
   pub left : Budget
@@ -33,9 +33,10 @@ pub record LeavesLeaves (b : Body) (e : Edits) (u : Budget) (t : Store Value) (r
       ≤ most_from u (root_of w r) (standing w) + (blocks_turned b e + length (kept_cells s))
   pub leaves : (c : CellSeen) → Contains (standing w) c → c.level ≡ 1
       → (Contains (ids_of (leaves_of x)) c.id → ⊥) → Contains (standing now) c
-  pub kept : (c : CellSeen) → Contains (kept_cells (numbered (f.next + blocks_turned b e) s)) c
+  pub kept : (c : CellSeen) → Contains (kept_cells (numbered x (f.next + blocks_turned b e) s)) c
       → Contains (standing now) c × (c.level ≡ 1)
-  pub taken : (c : CellSeen) → Contains (kept_cells (numbered (f.next + blocks_turned b e) s)) c
-      → (f.next ≤ c.id) × (c.id < (behind (turning_turn b e x s) f).next)
-  pub names : HaveNames (kept_cells (numbered (f.next + blocks_turned b e) s))
+  pub taken : (c : CellSeen) → Contains (kept_cells (numbered x (f.next + blocks_turned b e) s)) c
+      → Contains (ids_of (leaves_of x)) c.id
+      ⊎ ((f.next ≤ c.id) × (c.id < (behind (turning_turn b e x s) f).next))
+  pub names : HaveNames (kept_cells (numbered x (f.next + blocks_turned b e) s))
   pub stays : StaysOf f (behind (turning_turn b e x s) f) w now

@@ -1,8 +1,9 @@
 -- A body that comes out of tails, or had no bytes, to extents below one twig (docs/volume.md,
 -- "Bodies in extents"). A key is its rank.
-use Rattle.std.specs.Prelude.{◌≡◌, ℕ, ◌+◌, ◌-◌, ◌<◌, List, [], ◌∷◌, ◌++◌, length, replicate, Bool}
+use Rattle.std.specs.Prelude.{◌≡◌, ℕ, ◌+◌, ◌-◌, ◌<◌, List, [], ◌∷◌, ◌++◌, replicate, Bool}
 use Rattle.std.specs.Prelude.{true, false}
-use Rattle.std.specs.Prelude.{Contains, Option, None, Some, option_map, unwrap_or}
+use Rattle.std.specs.Prelude.{Contains, Option, None, Some, option_map, unwrap_or, ◌==◌}
+use Rattle.std.specs.Prelude.{if◌then◌else◌}
 use Rattle.std.specs.List.{flat_map}
 use Rattle.r4_base.specs.Key.{key_of_rank, rank}
 use Rattle.r4_base.specs.Tree.{IsNode}
@@ -125,15 +126,16 @@ pub record AreKept (b : Body) (x : Turn) (s : Kept) : Type 0 where
   pub right_id : ℕ
   pub right : HasRight (last_of x) to right_id s.right
 
--- the same cells under other numbers: the next ones
+-- The first leaf keeps its number. What stays of the last one takes the next number, or the one
+-- behind it where that is the first leaf's.
 abbrev pub with_id : (id : ℕ) → CellSeen → CellSeen
 with_id i c = record c { id = i }
 
-abbrev pub numbered : (next : ℕ) → Kept → Kept
-numbered n s = record {
-  left = option_map (with_id n) s.left;
-  right = option_map (with_id (n + length (given_cells s.left))) s.right;
-}
+abbrev pub right_number : Turn → (next : ℕ) → ℕ
+right_number x n = if x.leaf.id == n then n + 1 else n
+
+abbrev pub numbered : Turn → (next : ℕ) → Kept → Kept
+numbered x n s = record s { right = option_map (with_id (right_number x n)) s.right }
 
 -- ---- the turn
 
@@ -163,18 +165,18 @@ pieces_with b x extent s =
 abbrev pub told_pieces : Body → Edits → Turn → Kept → List TwigPiece
 told_pieces b e x s = pieces_with b x (told_extent b e) s
 
--- The twig gets these pieces. The blocks that come have the first numbers, and what stays of the
--- leaves, which go, the next ones.
+-- The twig gets these pieces. The blocks that come have the first numbers; two more are for what
+-- stays of the last leaf.
 abbrev pub turning_turn : Body → Edits → Turn → Kept → TwigTurn
 turning_turn b e x s = record {
   key = rank x.twig.lo;
   node = node_of x.twig;
   pieces = λ n. pieces_with b x (with_numbers [] n (told_extent b e))
-      (numbered (n + blocks_turned b e) s);
+      (numbered x (n + blocks_turned b e) s);
   beside = λ n. record {
-    below = record { old = leaves_of x; new = kept_cells (numbered (n + blocks_turned b e) s) };
+    below = record { old = leaves_of x; new = kept_cells (numbered x (n + blocks_turned b e) s) };
     blocks = cells_coming (set_over (tails_of b x) e) [] n (told_extent b e);
   };
   blocks = blocks_turned b e;
-  leaves = length (kept_cells s);
+  leaves = 2;
 }

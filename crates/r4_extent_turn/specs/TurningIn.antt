@@ -1,6 +1,6 @@
 -- A body that comes to extents, in a working set (docs/volume.md, "Bodies in extents"). A key is
 -- its rank.
-use Rattle.std.specs.Prelude.{◌≡◌, ℕ, ◌+◌, ◌^◌, ◌<◌, ◌≤◌, List, [], ◌∷◌, length, map, Contains}
+use Rattle.std.specs.Prelude.{◌≡◌, ℕ, ◌+◌, ◌^◌, ◌<◌, ◌≤◌, List, [], ◌∷◌, map, Contains}
 use Rattle.std.specs.Prelude.{false, true}
 use Rattle.std.specs.Arc.{arc_value}
 use Rattle.r4_base.specs.Key.{rank}
@@ -65,7 +65,7 @@ pub record IsTurnIn (b : Body) (w : WorkingSet) (x : Turn) : Type 0 where
 abbrev pub turns_to : Body → Edits → Turn → Kept → List TwigTurn
 turns_to b e x s = turning_turn b e x s ∷ []
 
--- numbers enough: for the blocks, for what stays of the leaves, and 64 of the twig's own
+-- numbers enough: for the blocks, two for what stays of the last leaf, and 64 of the twig's own
 abbrev pub numbers_to_turn : Body → Edits → ℕ
 numbers_to_turn b e = blocks_turned b e + 66
 
@@ -104,8 +104,8 @@ pub record IsMadeFor (b : Body) (e : Edits) (x : Turn) (f after : Fresh)
   pub are : AreKept b x kept
   pub pieces_are : pieces ≡ (turning_turn b e x kept).pieces f.next
   pub beside_is : beside ≡ (turning_turn b e x kept).beside f.next
-  pub cells_are : cells ≡ kept_cells (numbered (f.next + blocks_turned b e) kept)
-  pub left : after ≡ record f { next = f.next + (blocks_turned b e + length (kept_cells kept)) }
+  pub cells_are : cells ≡ kept_cells (numbered x (f.next + blocks_turned b e) kept)
+  pub left : after ≡ record f { next = f.next + (blocks_turned b e + 2) }
 
 -- The turn was done. These cells stand in the place of the leaves.
 pub record HasTurnedOut (b : Body) (e : Edits) (x : Turn) (f after : Fresh) (w now : WorkingSet)
@@ -114,5 +114,5 @@ pub record HasTurnedOut (b : Body) (e : Edits) (x : Turn) (f after : Fresh) (w n
   pub are : AreKept b x kept
   pub turned : (t : Store Value) (r : Root) → CanTurnOut b e t r x f w
       → AreTurned t r (turns_to b e x kept) f w now
-  pub cells_are : cells ≡ kept_cells (numbered (f.next + blocks_turned b e) kept)
+  pub cells_are : cells ≡ kept_cells (numbered x (f.next + blocks_turned b e) kept)
   pub left : after ≡ behind (turning_turn b e x kept) f

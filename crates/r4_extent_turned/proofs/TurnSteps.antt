@@ -71,7 +71,7 @@ module _ (b : Body) (e : Edits) (f : Fresh) (cells : List CellSeen) (twig : Cell
         (can_leaves b e u t r f cells x can w0 once.start once.out.kept once.out.are w1 turned))))
 
     module _ (g : Fresh) (now : WorkingSet) (made : AreMadeIn t r edits after left g w1 now) where
-      made_as : AreMadeIn t r (without_bytes e) (cells_after x (kept_cells (numbered (f.next + blocks_turned b e) once.out.kept)) cells) (behind (turning_turn b e x once.out.kept) f) g w1 now
+      made_as : AreMadeIn t r (without_bytes e) (cells_after x (kept_cells (numbered x (f.next + blocks_turned b e) once.out.kept)) cells) (behind (turning_turn b e x once.out.kept) f) g w1 now
       made_as =
           subst (λ cs. AreMadeIn t r (without_bytes e) (cells_after x cs cells) (behind (turning_turn b e x once.out.kept) f) g w1 now) once.out.cells_are
           (subst (λ h. AreMadeIn t r (without_bytes e) those h g w1 now) once.out.left

@@ -49,13 +49,14 @@ use Rattle.r4_extent_shrink.proofs.r4_extent_growth.r4_measure.r4_patch.Members.
 use Rattle.r4_extent_shrink.proofs.r4_extent_growth.r4_measure.r4_path.Rising.{follow_within, hi_is, lo_is}
 use Rattle.r4_extent_shrink.proofs.r4_extent_growth.r4_measure.r4_work.InPlace.{standing_is}
 use Rattle.r4_extent_turn.specs.TurnedOut.{LeavesLeaves}
-use Rattle.r4_extent_turn.specs.Turning.{AreKept, Kept, Turn, blocks_turned, in_turned, kept_cells, last_of, leaves_of, numbered, turning_turn, with_id}
+use Rattle.r4_extent_turn.specs.Turning.{AreKept, Kept, Turn, blocks_turned, in_turned, kept_cells, last_of, leaves_of, numbered, right_number, turning_turn, with_id}
 use Rattle.r4_extent_turn.specs.Turning.{turned_values as extent_values}
 use Rattle.r4_extent_turn.specs.TurningIn.{CanTurnOut, MayTurnOut, turns_to}
 use Rattle.r4_extent_turn.proofs.Bodies.{some_keys}
 use Rattle.r4_extent_turn.proofs.Comes.{right_low}
 use Rattle.r4_extent_turn.proofs.LeftSet.{turn_leaves}
-use Rattle.r4_extent_turn.proofs.ReadyTurn.{can_turn_out, few_kept}
+use Rattle.r4_extent_turn.proofs.Keeps.{few_kept}
+use Rattle.r4_extent_turn.proofs.ReadyTurn.{can_turn_out}
 use Rattle.r4_extent_turn.proofs.SetTurned.{set_turned}
 use Rattle.r4_extent_turned.specs.Whole.{CanTurn, cells_after, kept_most, most_turned, turned_keys, turned_values}
 use Rattle.r4_extent_turned.proofs.KeptRoom.{kept_needs}
@@ -159,7 +160,7 @@ module _ (b : Body) (e : Edits) (u : Budget) (t : Store Value) (r : Root) (f : F
     left = behind (turning_turn b e x s) f
 
     abbrev kept : List CellSeen
-    kept = kept_cells (numbered (f.next + blocks_turned b e) s)
+    kept = kept_cells (numbered x (f.next + blocks_turned b e) s)
 
     abbrev after : List CellSeen
     after = cells_after x kept cells
@@ -179,7 +180,7 @@ module _ (b : Body) (e : Edits) (u : Budget) (t : Store Value) (r : Root) (f : F
     ]
 
     enough_taken : left.next + 64 * (length cells + 2) ≤ left.end
-    enough_taken = let n = is.numbers in let l = few_kept s in omega (arith, n, l)
+    enough_taken = let n = is.numbers in omega (arith, n)
 
     names : HaveNames after
     names = have_names after (distinct_append (without first_ids cells) kept (picked_apart (λ c. not (is_among first_ids c.id)) cells (distinct cells is.names)) (distinct kept leaves.names) apart)
@@ -187,9 +188,13 @@ module _ (b : Body) (e : Edits) (u : Budget) (t : Store Value) (r : Root) (f : F
         apart : (c d : CellSeen) → Contains (without first_ids cells) c → Contains kept d → c.id ≢ d.id
         apart c d mc md same =
             let there = standing_is t r f w0 measured.working c (stand c (in_without first_ids cells c mc).0) in
-            let own = leaves.taken d md in
             let n = enough_taken in
-            none-some (node_of c) (sym (measured.working.free.cells c.id (omega (arith, own, same)) (omega (arith, own, same, n))) ∙ there)
+            elim (leaves.taken d md) [
+              | inl leaf ↦
+                  let (y, in_leaves, id) = of_id (leaves_of x) c.id (subst (Contains first_ids) (sym same) leaf) in
+                  let bad : true ≡ false = sym (among_cell (leaves_of x) c.id y in_leaves id) ∙ (in_without first_ids cells c mc).1 in cc
+              | inr own ↦ none-some (node_of c) (sym (measured.working.free.cells c.id (omega (arith, own, same)) (omega (arith, own, same, n))) ∙ there)
+            ]
 
     goes_on : (c : CellSeen) → Contains after c → c.level ≡ 1 → GoesOn w1 c
     goes_on c at one = (c, stays, record { id = refl; level = refl; lo = refl; hi = omega arith; block = refl })
@@ -213,10 +218,10 @@ module _ (b : Body) (e : Edits) (u : Budget) (t : Store Value) (r : Root) (f : F
     leaf_rises : rank x.leaf.lo < rank x.leaf.hi → Rises (node_of x.leaf).units
     leaf_rises some = let sound = is.sound x.leaf leaf_in leaf_one in (units_of_leaf x.leaf leaf_one (lent_stands x.leaf x.leaf refl leaf_one sound.whole sound.accepted) some).rises
 
-    room_left : (m : ℕ) (o : Option CellSeen) → HasLeft x.leaf k.from o → (c : CellSeen) → Contains (given_cells (option_map (with_id m) o)) c
+    room_left : (o : Option CellSeen) → HasLeft x.leaf k.from o → (c : CellSeen) → Contains (given_cells o) c
         → is_met (changed beside) (rank c.lo) (rank c.hi) ≡ true → leaf_bytes (units_after None beside (node_of c)) ≤ 4068
-    room_left m None h c at met = absurd (none c at)
-    room_left m (Some l) h c at met = elim (cases (with_id m l) c [] at) [
+    room_left None h c at met = absurd (none c at)
+    room_left (Some l) h c at met = elim (cases l c [] at) [
       | inr nothing ↦ absurd (none c nothing)
       | inl same ↦
           let lo : rank c.lo ≡ rank x.leaf.lo = ap (λ (z : CellSeen). rank z.lo) same ∙ ap rank h.1.from in
@@ -251,22 +256,22 @@ module _ (b : Body) (e : Edits) (u : Budget) (t : Store Value) (r : Root) (f : F
     room : (c : CellSeen) → Contains after c → c.level ≡ 1 → is_met (changed beside) (rank c.lo) (rank c.hi) ≡ true → leaf_bytes (units_after None beside (node_of c)) ≤ 4068
     room c at one met = elim (in_after c at) [
       | inl old ↦ is.room c old.0 one met
-      | inr new ↦ elim (Contains-append_cases (given_cells (numbered (f.next + blocks_turned b e) s).left) (given_cells (numbered (f.next + blocks_turned b e) s).right) c new) [
-        | inl a ↦ room_left (f.next + blocks_turned b e) s.left k.left c a met
-        | inr a ↦ absurd (none_right (f.next + blocks_turned b e + length (given_cells s.left)) s.right refl c a met)
+      | inr new ↦ elim (Contains-append_cases (given_cells s.left) (given_cells (numbered x (f.next + blocks_turned b e) s).right) c new) [
+        | inl a ↦ room_left s.left k.left c a met
+        | inr a ↦ absurd (none_right (right_number x (f.next + blocks_turned b e)) s.right refl c a met)
       ]
     ]
 
     -- ---- what changes lies in them
 
-    in_left : (m : ℕ) (o : Option CellSeen) → HasLeft x.leaf k.from o → (j : ℕ) → rank x.leaf.lo ≤ j → j < first_byte b
-        → (c : CellSeen) × Contains (given_cells (option_map (with_id m) o)) c × (c.level ≡ 1) × ((rank c.lo ≤ j) × (j < rank c.hi))
-    in_left m None h j low high = let from = k.from_is in absurd (omega (arith, h, from, low, high))
-    in_left m (Some l) h j low high =
+    in_left : (o : Option CellSeen) → HasLeft x.leaf k.from o → (j : ℕ) → rank x.leaf.lo ≤ j → j < first_byte b
+        → (c : CellSeen) × Contains (given_cells o) c × (c.level ≡ 1) × ((rank c.lo ≤ j) × (j < rank c.hi))
+    in_left None h j low high = let from = k.from_is in absurd (omega (arith, h, from, low, high))
+    in_left (Some l) h j low high =
         let lo = ap rank h.1.from in
         let hi = ap rank h.1.to in
         let from = k.from_is in
-        (with_id m l, here (with_id m l) [], h.1.level_is, (omega (arith, lo, low), omega (arith, hi, from, high)))
+        (l, here l [], h.1.level_is, (omega (arith, lo, low), omega (arith, hi, from, high)))
 
     lie : (j : ℕ) → is_in (changed beside) j ≡ true → LiesInLeaf after j
     lie j on =
@@ -286,10 +291,10 @@ module _ (b : Body) (e : Edits) (u : Budget) (t : Store Value) (r : Root) (f : F
                     absurd (omega (arith, has, lo, from, begins, before))
                 | inl first ↦
                     let leaf_lo : rank y.lo ≡ rank x.leaf.lo = ap (λ (z : CellSeen). rank z.lo) first in
-                    let (d, in_kept, level, key) = in_left (f.next + blocks_turned b e) s.left k.left j (omega (arith, has, lo, leaf_lo)) (is.before j on) in (
+                    let (d, in_kept, level, key) = in_left s.left k.left j (omega (arith, has, lo, leaf_lo)) (is.before j on) in (
                       d,
                       Contains-append_right (without first_ids cells) kept d
-                          (Contains-append_left (given_cells (numbered (f.next + blocks_turned b e) s).left) (given_cells (numbered (f.next + blocks_turned b e) s).right) d in_kept),
+                          (Contains-append_left (given_cells s.left) (given_cells (numbered x (f.next + blocks_turned b e) s).right) d in_kept),
                       level,
                       key,
                     )
@@ -308,7 +313,7 @@ module _ (b : Body) (e : Edits) (u : Budget) (t : Store Value) (r : Root) (f : F
     few_after =
         let n = length-append (without first_ids cells) kept in
         let m = few_without first_ids cells in
-        let l = few_kept (numbered (f.next + blocks_turned b e) s) in
+        let l = few_kept (numbered x (f.next + blocks_turned b e) s) in
         omega (arith, n, m, l)
 
     left_enough : left.next + 64 * length after ≤ left.end

@@ -109,6 +109,7 @@ committed a1\n",
         text: "\
 script\n\
 create /a\n\
+fill /a 0 524288 97\n\
 fill /a 0 20480 97\n\
 commit\n\
 fill /a 20480 81920 97\n\
@@ -122,31 +123,35 @@ done t1 s1 c1 ok\n\
 ended t1\n\
 begin t2 s1\n\
 fuse a1 a2 n23\n\
-done t2 s1 c2 ok\n\
+refused t2 s1 c2 space 257 35\n\
 ended t2\n\
+begin t3 s1\n\
+fuse a1 a3 n23\n\
+done t3 s1 c3 ok\n\
+ended t3\n\
 sealed a1\n\
 committed a1\n\
-acked s1 t2\n\
-begin t3 s1\n\
-refused t3 s1 c4 space 46 35\n\
-ended t3\n\
+acked s1 t3\n\
 begin t4 s1\n\
-done t4 s1 c5 ok\n\
+refused t4 s1 c5 space 46 35\n\
 ended t4\n\
-sealed a3\n\
-committed a3\n\
+begin t5 s1\n\
+done t5 s1 c6 ok\n\
+ended t5\n\
 sealed a4\n\
 committed a4\n\
-acked s1 t4\n\
-begin t5 s1\n\
-done t5 s1 c7 ok\n\
-ended t5\n\
+sealed a5\n\
+committed a5\n\
+acked s1 t5\n\
 begin t6 s1\n\
-fuse a5 a6 n29\n\
 done t6 s1 c8 ok\n\
 ended t6\n\
-sealed a5\n\
-committed a5\n",
+begin t7 s1\n\
+fuse a6 a7 n29\n\
+done t7 s1 c9 ok\n\
+ended t7\n\
+sealed a6\n\
+committed a6\n",
         listed: "d 0755 2 0 0 1 /\nf 0644 1 0 0 61440 /b\n",
         body: Some(Body {
             path: "/b",

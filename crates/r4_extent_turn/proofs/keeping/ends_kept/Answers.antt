@@ -39,18 +39,9 @@ right_of-requires-clause-units c =
     → k < rank x.hi) (sym c.deref-2.ensures) around.units
 
 pub returns : goal.returns
-returns c leaf more same =
-    let next = ap (λ (f : Fresh). f.next) c.in_ok-left.ensures.fresh in
-    record {
-      left_is = subst (λ (x : CellSeen). HasLeftUnder x c.args.from.now c.args.fresh.now.next (option_map arc_value c.in_ok-left.left))
-          (c.deref.ensures ∙ first_is arc_value c.args.leaves.now c.index-leaves-0.result leaf more c.index-leaves-0.is same) c.in_ok-left.ensures.left;
-      right_is = subst (λ (i : ℕ). HasRight (last_leaf leaf more) c.args.to.now i (option_map arc_value c.in_ok-right.right)) next
-          (subst (λ (x : CellSeen). HasRight x c.args.to.now c.left_of.new.fresh.next (option_map arc_value c.in_ok-right.right))
-          (c.deref-2.ensures ∙ last_is arc_value c.args.leaves.now c.index-leaves-leaves.result leaf more c.index-leaves-leaves.is same) c.in_ok-right.ensures.right);
-      number =
-          let l = length (given_cells (option_map arc_value c.in_ok-left.left)) in
-          let r = length (given_cells (option_map arc_value c.in_ok-right.right)) in
-          c.in_ok-right.ensures.fresh
-          ∙ (ap (λ (f : Fresh). let g : Fresh = record f { next = f.next + r } in g) c.in_ok-left.ensures.fresh
-          ∙ ap (λ (k : ℕ). let g : Fresh = record c.args.fresh.now { next = k } in g) (let same : c.args.fresh.now.next + l + r ≡ c.args.fresh.now.next + (l + r) = omega arith in same));
-    }
+returns c x same = record {
+  left_is = subst (λ (l : CellSeen). HasLeft l c.args.from.now (option_map arc_value c.in_ok-left.left))
+      (c.deref.ensures ∙ first_is arc_value c.args.leaves.now c.index-leaves-0.result x.leaf x.more c.index-leaves-0.is same) c.in_ok-left.ensures;
+  right_is = search;
+  number = search;
+}
