@@ -3,6 +3,7 @@ use Rattle.std.proofs.Common.{map, ◌≡◌, ◌↔◌, ◌⊎◌, ℕ, ◌+◌
 use Rattle.std.proofs.Common.{◌∷◌, ◌++◌, length, refl, sym, ap, subst, ◌∙◌, arith, eq-eqb}
 use Rattle.std.specs.Prelude.{Contains, Option, None, Some, false, true, ◌==◌, if◌then◌else◌, option_map}
 use Rattle.std.proofs.lemmas.List.{append-nil, length-append}
+use Rattle.r4_base.specs.Cell.{names_block}
 use Rattle.r4_base.specs.Key.{IsKey, key_of_rank, offset_of, rank}
 use Rattle.r4_base.specs.Tree.{Name}
 use Rattle.r4_base.specs.declared.key.Key.{Key}

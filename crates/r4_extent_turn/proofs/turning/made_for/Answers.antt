@@ -64,7 +64,7 @@ returns c =
     made_for b e x f c.number_each.new.fresh c.ends_kept.new.fresh (edits_of c.in_ok-tails.tails) c.as_slice.result.now c.in_ok-extent.extent.pieces.items (map (λ d. arc_value d) c.in_ok-extent.extent.blocks.items)
     c.coming.result.from c.coming.result.to left right from to (c.as_slice.ensures.value ∙ c.in_ok-told.ensures)
     (λ k. c.in_ok-tails.ensures k ∙ ap (λ cs. last_put (units_within (rank c.coming.result.from) (rank c.coming.result.to) cs) k) leaves)
-    c.in_ok-extent.ensures (c.in_ok-kept.ensures x.leaf x.more leaves) c.in_ok-pieces.pieces.items _ _
+    c.in_ok-extent.ensures (c.in_ok-kept.ensures x leaves) c.in_ok-pieces.pieces.items _ _
     (c.in_ok-pieces.ensures ∙ ap (λ ps. pieces_over (rank x.leaf.lo) (rank c.coming.result.to) (left_pointer left ++ (ps ++ pointer_to right)) x.twig) c.as_slice-2.ensures.value)
     (λ i. record {
       below = record { old = (c.in_ok-all_of.ensures ∙ leaves) i; new = c.in_ok-new.ensures i };
