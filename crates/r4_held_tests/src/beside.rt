@@ -1,6 +1,6 @@
 //! Scripts that have nothing in common, and one script on many threads.
 
-use crate::files::{prints, two_files};
+use crate::files::{IN_EXTENTS, IN_TAILS, prints, two_files};
 use r4_run_testing::{LIST, RUN, fresh};
 use std::test::Fail;
 
@@ -44,9 +44,40 @@ committed a1\n";
 // Each script has an atom of its own, and each commits its own.
 #[test]
 fn scripts_of_two_files_do_not_fuse(rt: HostRuntime) -> Result<(), Fail> {
-    let mut dev = two_files(&rt, rt.alloc())?;
+    let mut dev = two_files(&rt, rt.alloc(), IN_TAILS)?;
     prints(&rt, rt.alloc(), &RUN, &mut dev, WRITES, TOLD)?;
     prints(&rt, rt.alloc(), &RUN, &mut dev, READS, READ)
+}
+
+const WRITES_FIRST: &str = "\
+script\n\
+write /a 0 XY\n\
+commit\n\
+script\n\
+write /b 0 XY\n\
+commit\n";
+
+const READS_FIRST: &str = "\
+script\n\
+begin\n\
+read /a 0 4\n\
+read /b 0 4\n\
+end\n";
+
+const READ_FIRST: &str = "\
+begin t1 s1\n\
+done t1 s1 c2 data 4 58596161\n\
+done t1 s1 c3 data 4 58596262\n\
+ended t1\n\
+sealed a1\n\
+committed a1\n";
+
+// In extents the first bytes do not lie beside the other file's either.
+#[test]
+fn scripts_of_two_large_files_do_not_fuse(rt: HostRuntime) -> Result<(), Fail> {
+    let mut dev = two_files(&rt, rt.alloc(), IN_EXTENTS)?;
+    prints(&rt, rt.alloc(), &RUN, &mut dev, WRITES_FIRST, TOLD)?;
+    prints(&rt, rt.alloc(), &RUN, &mut dev, READS_FIRST, READ_FIRST)
 }
 
 static FOUR: [&str; 4] = ["run", "image", "--threads", "4"];

@@ -1,6 +1,6 @@
 //! A read that fails, in the opening and behind it.
 
-use crate::files::two_files;
+use crate::files::{IN_TAILS, two_files};
 use r4_outside::{MemoryDevice, MemorySink};
 use r4_run_testing::{RUN, call};
 use std::alloc::Global;
@@ -43,7 +43,7 @@ fn ends_so<X: Abort + Threads + Wait + Sync>(
     code: u8,
     wanted: &str,
 ) -> Result<(), Fail> {
-    let mut dev = two_files(rt, alloc)?;
+    let mut dev = two_files(rt, alloc, IN_TAILS)?;
     dev.fail(alloc, nth)?;
     runs_so(rt, alloc, &mut dev, code, wanted)
 }
