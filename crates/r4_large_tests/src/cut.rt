@@ -20,7 +20,7 @@ fill /f 0 40000 98\n\
 commit\n";
 
 // What a run tells whose device stops in the middle of the first part of the second commit: the
-// clock counts the 10 writes and syncs of mkfs, 20 of the first commit and 5 of the second.
+// clock counts the 10 writes and syncs of mkfs, 21 of the first commit and 4 of the second.
 const CUT: &str = "\
 begin t1 s1\n\
 done t1 s1 c2 ok\n\
@@ -52,13 +52,13 @@ static SECOND: Body = Body {
 };
 
 // How many writes come before that of the journal header in each of the two commits. The first one
-// has 5 blocks of the file and a leaf, which are placed, 3 copies, a record and a head; behind its
-// header 3 homes and the footer. The second has 5 blocks that are placed and 9 copies: of the twig,
-// the leaf, the 5 blocks that stood, the superblock and the bitmap; then a record and a head.
-static HEADERS: [u64; 2] = [11, 32];
+// has 5 blocks of the file, which are placed, 4 copies of the twig, the leaf, the superblock and the
+// bitmap, a record and a head; behind its header 4 homes and the footer. The second has 5 blocks that
+// are placed and 9 copies: of those four and the 5 blocks that stood; then a record and a head.
+static HEADERS: [u64; 2] = [11, 33];
 
 // How many writes both commits make: behind the second header 9 homes and the footer.
-const WRITES: u64 = 43;
+const WRITES: u64 = 44;
 
 // How many commits are left of a run that stops behind so many writes: those whose header was
 // written, or torn with its first sector, which names the transaction.

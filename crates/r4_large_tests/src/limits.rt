@@ -87,7 +87,7 @@ fuse a1 a2 n23\n\
 done t2 s1 c2 ok\n\
 ended t2\n\
 begin t3 s1\n\
-fuse a1 a3 n9223372036855824449\n\
+fuse a1 a3 n23\n\
 done t3 s1 c3 toobig\n\
 ended t3\n\
 begin t4 s1\n\
@@ -95,7 +95,7 @@ fuse a1 a4 n22\n\
 done t4 s1 c4 data 2 0078\n\
 ended t4\n\
 begin t5 s1\n\
-fuse a1 a5 n9223372036855824449\n\
+fuse a1 a5 n23\n\
 done t5 s1 c5 attr 100644 1 1073741824 0 0 0 0 0\n\
 ended t5\n\
 sealed a1\n\
