@@ -4,7 +4,7 @@ use Rattle.r4_base.specs.Cell.{cell_fault}
 use Rattle.r4_base.specs.Key.{rank}
 use Rattle.r4_cell.specs.Seen.{CellSeen}
 use Rattle.r4_cell.proofs.Faults.{cell_still}
-use Rattle.r4_node_tests.proofs.changes.cell_of.Goals as goal
+use Rattle.r4_patch_tests.proofs.changes.cell_of.Goals as goal
 
 -- a data block may have any bytes
 pub new_cell-requires : goal.new_cell-requires
