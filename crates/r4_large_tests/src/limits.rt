@@ -147,7 +147,7 @@ begin t6 s1\n\
 done t6 s1 c8 ok\n\
 ended t6\n\
 begin t7 s1\n\
-fuse a6 a7 n29\n\
+fuse a6 a7 n23\n\
 done t7 s1 c9 ok\n\
 ended t7\n\
 sealed a6\n\
