@@ -62,10 +62,10 @@ struct Made {
 /// Packs a standing twig anew, so that a body comes out of its leaves, or had no bytes, to an
 /// extent. Its blocks are made of the bytes that stood in the leaves, of those that the edits set
 /// over them, and of zeros. What the first leaf has below the extent stays, unless the leaf begins
-/// there, and what the last one has behind it, from the first of these units on; the leaves between
-/// them go. The blocks take the first numbers, what stays of the leaves the next ones, and 64 more
-/// are the twig's own, whether it needs them or not. It gives the cells that come in the place of
-/// the leaves. The only error is want of memory; then numbers may have been taken (docs/volume.md,
+/// there, and keeps its number; what the last one has behind it stays in a leaf from the first of
+/// these units on; the leaves between them go. The blocks take the first numbers, two more are for
+/// what stays of the last leaf, and 64 are the twig's own, whether it needs them or not. It gives the
+/// cells that come in the place of the leaves. The only error is want of memory; then numbers may have been taken (docs/volume.md,
 /// "Bodies in extents").
 pub fn turn_out(
     alloc: Global,
@@ -104,8 +104,8 @@ pub fn turn_out(
     Ok(cells)
 }
 
-// Makes all that the turn needs. It takes the numbers of the blocks, and of what stays of the
-// leaves.
+// Makes all that the turn needs. It takes the numbers of the blocks, and two for what stays of the
+// last leaf.
 fn made_for(
     alloc: Global,
     body: &SizedBody,
