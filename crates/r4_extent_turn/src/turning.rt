@@ -65,8 +65,8 @@ struct Made {
 /// there, and keeps its number; what the last one has behind it stays in a leaf from the first of
 /// these units on; the leaves between them go. The blocks take the first numbers, two more are for
 /// what stays of the last leaf, and 64 are the twig's own, whether it needs them or not. It gives the
-/// cells that come in the place of the leaves. The only error is want of memory; then numbers may have been taken (docs/volume.md,
-/// "Bodies in extents").
+/// cells that come in the place of the leaves. The only error is want of memory; then numbers may
+/// have been taken (docs/volume.md, "Bodies in extents").
 pub fn turn_out(
     alloc: Global,
     set: &mut WorkingSet,
