@@ -1,3 +1,4 @@
 pub mod Filled
+pub mod NewBlocks
 pub mod Raised
 pub mod Turned

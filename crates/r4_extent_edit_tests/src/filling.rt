@@ -5,28 +5,32 @@ ghost use Rattle.r4_base.specs.Key.{rank};
 ghost use Rattle.r4_extent_edit_tests.specs.Borders.{IsAtBorder};
 ghost use Rattle.r4_graft.specs.Splices.{IsBorder};
 
+use crate::blocks::{blocks_behind, count_new_blocks};
 use crate::raising::raised;
 use r4_base::{Key, Memory};
 use r4_branch::TwigPiece;
 use r4_cell::{Cell, Change, Fresh, least, top};
-use r4_edit_testing::{ROOT, UNPLACED, are_new_blocks, is_twig_of_holes, two_blocks_behind};
+use r4_edit_testing::{ROOT, UNPLACED, is_twig_of_holes};
 use r4_extent_edit::set_extent;
 use r4_path::pieces_of_cell;
 use std::alloc::Global;
 use std::sync::Arc;
 
-/// Puts an extent of two blocks that have no place yet over a root of two holes, from a key on;
-/// `None` where it is another root or extent, or an end of it lies within a block of a hole.
+/// Puts an extent of blocks that have no place yet over a root of two holes, from a key on; `None`
+/// where it is another root or extent, or an end of it lies within a block of a hole.
 pub fn fill(
     alloc: Global,
     twig: &Arc<Cell>,
     key: &Key,
     body: &[u8],
 ) -> Result<Option<Change>, Memory> {
-    let Some(end) = two_blocks_behind(key) else {
+    let Some(count) = count_new_blocks(body) else {
         return Ok(None);
     };
-    if !are_new_blocks(body) || key.is_below(least()) || top().is_below(end) {
+    let Some(end) = blocks_behind(key, count) else {
+        return Ok(None);
+    };
+    if key.is_below(least()) || top().is_below(end) {
         return Ok(None);
     }
     if !is_twig_of_holes(alloc, twig)? {
@@ -52,10 +56,13 @@ pub fn fill_below(
     key: &Key,
     body: &[u8],
 ) -> Result<Option<Change>, Memory> {
-    let Some(end) = two_blocks_behind(key) else {
+    let Some(count) = count_new_blocks(body) else {
         return Ok(None);
     };
-    if !are_new_blocks(body) || key.is_below(least()) || top().is_below(end) {
+    let Some(end) = blocks_behind(key, count) else {
+        return Ok(None);
+    };
+    if key.is_below(least()) || top().is_below(end) {
         return Ok(None);
     }
     if !is_twig_of_holes(alloc, twig)? {

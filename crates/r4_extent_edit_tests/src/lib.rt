@@ -3,7 +3,11 @@
 #![tactic(auto)]
 
 #[cfg(test)]
+mod blocks;
+#[cfg(test)]
 mod filling;
+#[cfg(test)]
+mod many;
 #[cfg(test)]
 mod raising;
 #[cfg(test)]

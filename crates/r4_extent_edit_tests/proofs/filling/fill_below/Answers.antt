@@ -1,9 +1,10 @@
-use Rattle.std.proofs.Common.{◌≡◌, ◌≤◌, ◌+◌, ◌^◌, map, ap, refl, sym, subst, rules}
+use Rattle.std.proofs.Common.{◌≡◌, ◌≤◌, ◌+◌, ◌*◌, ◌<◌, ◌^◌, map, ap, refl, sym, subst, rules}
 use Rattle.std.specs.Arc.{arc_value}
-use Rattle.r4_base.specs.Key.{least, rank, top}
+use Rattle.r4_base.specs.Key.{IsKey, least, offset_of, rank, top}
 use Rattle.r4_cell.specs.declared.change.Fresh.{Fresh}
 use Rattle.r4_edit.specs.Editing.{given_item}
-use Rattle.r4_edit_testing.specs.Trials.{IsNewExtent, IsTwigOfHoles}
+use Rattle.r4_edit_testing.specs.Trials.{IsTwigOfHoles}
+use Rattle.r4_extent_edit_tests.specs.Blocks.{AreBlocks, IsExtentOf}
 use Rattle.r4_extent_edit_tests.proofs.Filled.{fill_raised, holes_below}
 use Rattle.r4_extent_edit_tests.specs.Raised.{IsRaised}
 use Rattle.r4_graft.specs.Splices.{IsBorder}
@@ -17,22 +18,26 @@ raised-requires-clause-twig c =
 
 pub set_extent-requires-clause-path : goal.set_extent-requires-clause-path
 set_extent-requires-clause-path c =
+    let count = c.in-Some.count in
     let it = given_item c.args.key.now 5 c.args.body.now in
     let is : IsTwigOfHoles c.deref.result.now = c.in_ok-is_twig_of_holes.ensures c.if-not-branch.false in
     let seen : c.as_slice.result.now ≡ c.in_ok-pieces.pieces.items = search rules in
     let are : ArePiecesOf c.deref.result.now c.in_ok-pieces.pieces.items = search rules in
-    let end : rank c.in-Some.end ≡ rank c.args.key.now + 8192 = search rules in
-    let new : IsNewExtent it = search rules in
+    let end : rank c.in-Some-blocks_behind.end ≡ rank c.args.key.now + 4096 * count = search rules in
+    let are_blocks : AreBlocks count c.args.body.now = search rules in
+    let whole : IsKey c.args.key.now = search rules in
+    let fits : offset_of c.args.key.now + 4096 * count < 2 ^ 64 = search rules in
+    let new : IsExtentOf count it = record { body = are_blocks; key = whole; fits = fits } in
     let low : least ≤ rank c.args.key.now = search rules in
-    let high : rank c.in-Some.end ≤ top = search rules in
+    let high : rank c.in-Some-blocks_behind.end ≤ top = search rules in
     let one : IsBorder (rank c.args.key.now) c.as_slice.result.now = search rules in
-    let two : IsBorder (rank c.in-Some.end) c.as_slice.result.now = search rules in
+    let two : IsBorder (rank c.in-Some-blocks_behind.end) c.as_slice.result.now = search rules in
     let next = ap (λ (f : Fresh). f.next) c.in_ok-path.ensures.fresh in
     let stops = ap (λ (f : Fresh). f.end) c.in_ok-path.ensures.fresh in
     let path = map arc_value c.as_slice-2.result.now in
     let up : IsRaised (arc_value c.args.twig.now) (2 ^ 63 + 1000) path =
     subst (IsRaised (arc_value c.args.twig.now) (2 ^ 63 + 1000)) (ap (map arc_value) (sym c.as_slice-2.ensures.value))
     c.in_ok-path.ensures.path in
-    fill_raised c.deref.result.now (arc_value c.args.twig.now) path c.in_ok-pieces.pieces.items c.as_slice.result.now it
-    (rank c.in-Some.end) c.raised.new.fresh (sym c.deref.ensures) is up are seen refl new low high end one two
+    fill_raised c.deref.result.now (arc_value c.args.twig.now) path c.in_ok-pieces.pieces.items c.as_slice.result.now count it
+    (rank c.in-Some-blocks_behind.end) c.raised.new.fresh (sym c.deref.ensures) is up are seen refl new low high end one two
     next stops
