@@ -72,18 +72,25 @@ fn lay_leaf(
     lay(alloc, dev, at, 1, items.as_slice())
 }
 
+// How many leaves of so many bytes the file has.
+fn leaves(len: u16) -> u64 {
+    let len = u64::from(len);
+    SIZE.saturating_add(len)
+        .saturating_sub(1)
+        .checked_div(len)
+        .unwrap_or(0)
+}
+
 /// Lays the leaves in blocks one after the other, and gives the pointers to them.
 pub fn lay_file(alloc: Global, dev: &mut MemoryDevice, len: u16) -> Result<Vec<Item>, Fail> {
     lay_first(alloc, dev)?;
     let mut pointers = Vec::new(alloc);
     pointers.push(pointer(alloc, least(), FIRST)?)?;
-    let mut at = FIRST;
-    let mut offset = 0u64;
-    while offset < SIZE {
-        at = at.saturating_add(1);
+    for nth in 0..leaves(len) {
+        let at = FIRST.saturating_add(1).saturating_add(nth);
+        let offset = nth.saturating_mul(u64::from(len));
         lay_leaf(alloc, dev, at, offset, len)?;
         pointers.push(pointer(alloc, key(offset), at)?)?;
-        offset = offset.saturating_add(u64::from(len).max(1));
     }
     Ok(pointers)
 }

@@ -32,13 +32,13 @@ fn lay_level(
     count: usize,
 ) -> Result<Vec<Item>, Fail> {
     let mut pointers = Vec::new(alloc);
-    let mut rest = items;
-    while let Some(first) = rest.first() {
-        let (mine, behind) = rest.split_at(count.max(1).min(rest.len()));
+    for mine in items.chunks(count.max(1)) {
+        let Some(first) = mine.first() else {
+            return Ok(pointers);
+        };
         pointers.push(pointer(alloc, first.key, *next)?)?;
         lay(alloc, dev, *next, level, mine)?;
         *next = next.saturating_add(1);
-        rest = behind;
     }
     Ok(pointers)
 }
